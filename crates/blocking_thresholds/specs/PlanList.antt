@@ -1,6 +1,8 @@
 -- A plan as the list of its edges: how many lie at each node and the worst rank there, counted along the list, are those of the plan.
-use Rattle.std.specs.Prelude.{ℕ, ◌+◌, ◌≤◌, ◌<◌, ◌≡◌, refl, Bool, true, false, not, cond, ◌&&◌, ◌||◌, length, get_or, set, T, eqb, ltb}
-use Rattle.std.proofs.Common.{zero-le, arith, ◌∙◌, subst, ⊎_elim, get_or-set_same, get_or-set_other, ltb→lt, lt→ltb, nltb→le, T_not}
+use Rattle.std.specs.Prelude.{ℕ, ◌+◌, ◌≤◌, ◌<◌, max, ◌≡◌, refl, Bool, true, false, not, cond, ◌&&◌, ◌||◌, length, get_or, set, T, eqb, ltb}
+use Rattle.std.proofs.Math.Decide.{dec_lt}
+use Rattle.std.proofs.Math.Logic.{by_cases}
+use Rattle.std.proofs.Common.{lt-ltb, le-ltb, zero-le, arith, ◌∙◌, subst, ⊎_elim, get_or-set_same, get_or-set_other, ltb→lt, lt→ltb, nltb→le, T_not}
 use Rattle.std.proofs.Math.Path.{sym, ap}
 use mathlib.Core.List.Memᴰ
 use mathlib.Core.List.{List, [], ◌∷◌, ◌++◌, map, map-append}
@@ -104,6 +106,12 @@ raise x w r = go (ltb w r) (ltb→lt w r) (nltb→le w r)
     go : (t : Bool) → (T t → w < r) → (T (not t) → r ≤ w) → ltb x (cond t r w) ≡ ltb x w || (ltb x r || false)
     go true h k = up (ltb x w) (ltb x r) (λ q. lt→ltb x r (omega (arith, h tt, ltb→lt x w q)))
     go false h k = down (ltb x w) (ltb x r) (λ q. lt→ltb x w (omega (arith, k tt, ltb→lt x r q)))
+
+-- the greater of two ranks
+pub max_is : (w r : ℕ) → max w r ≡ cond (ltb w r) r w
+max_is w r = by_cases (dec_lt w r)
+    (λ h. let q = ap (λ b. cond b r w) (lt-ltb w r h) in omega (arith, q))
+    (λ h. let q = ap (λ b. cond b r w) (le-ltb w r (omega arith)) in omega (arith, q))
 
 pub worst_next : (end rank es w : List ℕ) (k : ℕ) → at end (at es k) < length w → WorstOf end rank es k w
     → {r : ℕ} → r ≡ cond (ltb (at w (at end (at es k))) (at rank (at es k))) (at rank (at es k)) (at w (at end (at es k)))

@@ -8,16 +8,6 @@ ghost use Rattle.blocking_thresholds.specs.PlanList.{Places, AtNodes, WorstOf, T
 
 use limits::ENTRY_LIMIT;
 
-// The greater of two ranks.
-fn raised(w: u8, r: u8) -> u8
-    ensures { result ≡ cond (ltb w r) r w }
-{
-    if w < r {
-        return r;
-    }
-    w
-}
-
 // How many of a plan's n edges lie at each node.
 pub fn held(n: usize, es: &[u16; 64], end: &[u8; ENTRY_LIMIT]) -> [u16; 32]
     requires { Places n es.now end.now }
@@ -46,7 +36,7 @@ pub fn worst(
     for k in 0..n {
         let e = es[k] as usize;
         let v = end[e] as usize;
-        w[v] = raised(w[v], rank[e]);
+        w[v] = w[v].max(rank[e]);
     }
     w
 }

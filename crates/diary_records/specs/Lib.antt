@@ -1,3 +1,2 @@
 pub mod TraceRecords
-pub mod Quartered
 pub mod FilledDiary

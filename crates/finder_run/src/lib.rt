@@ -30,11 +30,7 @@ pub fn ended(
     ensures { Ends g rem.now fixed.now steps left.old plan.old rival.old result left.new
         plan.new rival.new }
 {
-    let m = g.m;
-    let sv = g.sv;
-    let st = g.st;
-    let sh = g.sh;
-    let k = plan_writer::write_pairs(m, &sv, &st, &sh, rem, &mut *left);
+    let k = plan_writer::write_pairs(g.m, &g.sv, &g.st, &g.sh, rem, &mut *left);
     if 0 < k {
         return Found::None(steps, NoneKind::Left(k));
     }
@@ -54,18 +50,10 @@ pub fn find(g: Instance, left: &mut [u8], plan: &mut [u8], rival: &mut [u8]) -> 
     ensures { Finds (shown_by g) left.old plan.old rival.old result
         left.new plan.new rival.new }
 {
-    let sv = g.sv;
-    let st = g.st;
-    let rs = g.rank_s;
-    let rt = g.rank_t;
-    let tied = g.tied;
-    let qs = g.quota_s;
-    let qt = g.quota_t;
-    let reduced = reduction_run::reduce(g.m, &sv, &st, &rs, &rt, &tied, &qs, &qt);
-    let rem = reduced.rem;
-    let fixed = reduced.fixed;
+    let reduced = reduction_run::reduce(&g);
+    let state = reduced.state;
     let trace = reduced.trace;
-    let answer = ended(g, &rem, &fixed, trace.steps, left, plan, rival);
+    let answer = ended(g, &state.rem, &state.fixed, trace.steps, left, plan, rival);
     Outcome {
         answer: answer,
         trace: trace,

@@ -31,7 +31,7 @@ pub struct Instance {
     pub quota_t: [u8; 32],
 }
 
-// the cells of a table that hold a position, ascending: n of them. There is room for all cells of a table: only a roster's lists are known
+// the cells of a table that hold a position, ascending: n of them, in an array with its number since memory is fixed. There is room for all cells of a table: only a roster's lists are known
 // to fill no more than 1,024, and so the loop that finds them stores without a test.
 #[derive(Drop)]
 pub struct Found {
@@ -43,11 +43,7 @@ pub struct Found {
 pub fn count_at(file: &[u8], at: usize) -> usize
     ensures { result ≡ min (get_or file.now at 0) 32 }
 {
-    let n = roster_positions::byte_at(file, at) as usize;
-    if n <= 32 {
-        return n;
-    }
-    32
+    (roster_positions::byte_at(file, at) as usize).min(32)
 }
 
 // n quota bytes from a place on
@@ -74,17 +70,7 @@ pub fn listed_cells(n: usize, table: &[u8; TABLE]) -> Found
         cell[m] = c as u16;
         m += (table[c] != 0) as usize;
     }
-    Found { n: m, cell: cell }
-}
-
-// as many edges as the arrays have room for; a roster never has more
-pub fn edge_count(n: usize) -> usize
-    ensures { result ≡ min n entry_limit }
-{
-    if n <= ENTRY_LIMIT {
-        return n;
-    }
-    ENTRY_LIMIT
+    Found { n: m, cell }
 }
 
 // the rank at a stand: the position in the strict part, or the rank behind that part where the surveyor is not in it
@@ -132,15 +118,15 @@ pub fn filled(
         tied[e] = t == 0;
     }
     Instance {
-        m: m,
-        ns: ns,
-        nt: nt,
-        sv: sv,
-        st: st,
-        sh: sh,
-        rank_s: rank_s,
-        rank_t: rank_t,
-        tied: tied,
+        m,
+        ns,
+        nt,
+        sv,
+        st,
+        sh,
+        rank_s,
+        rank_t,
+        tied,
         quota_s: qs,
         quota_t: qt,
     }
@@ -160,7 +146,17 @@ pub fn instance_of(file: &[u8]) -> Instance
     let mut next = [0u8; 32];
     roster_positions::stamp_rankings(file, at + 2, nt, &mut strict, &mut next);
     let found = listed_cells(ns, &listed);
-    let m = edge_count(found.n);
-    let cell = found.cell;
-    filled(ns, nt, m, &cell, &listed, &strict, &next, quota_s, quota_t)
+    // as many edges as the arrays have room for; a roster never has more
+    let m = found.n.min(ENTRY_LIMIT);
+    filled(
+        ns,
+        nt,
+        m,
+        &found.cell,
+        &listed,
+        &strict,
+        &next,
+        quota_s,
+        quota_t,
+    )
 }

@@ -12,7 +12,7 @@ ghost use Rattle.plan_carried.specs.Remaining.{Few, CarriedFor, stays};
 use instance::Instance;
 use limits::{ENTRY_LIMIT, PAIR_WIDTH, PLAN_SIZE};
 
-// a plan's bytes, at the front of an array
+// a plan's bytes, at the front of an array, since memory is fixed
 #[derive(Drop)]
 pub struct CarriedPlan {
     pub len: usize,
@@ -41,16 +41,12 @@ pub fn carried(g: Instance, plan: &[bool; ENTRY_LIMIT], number: u8) -> CarriedPl
     requires { Loaded g × Few g.m plan.now }
     ensures { CarriedFor (shown_by g) plan.now number result }
 {
-    let sv = g.sv;
-    let st = g.st;
-    let kept = besides(g.m, &sv, plan, number);
+    let kept = besides(g.m, &g.sv, plan, number);
     let mut bytes = [0u8; PLAN_SIZE];
-    let sh = g.sh;
     let l = plan_lookup::list_edges(g.m, &kept);
-    let es = l.edges;
-    plan_writer::write_plan(l.n, &es, &sv, &st, &sh, &mut bytes);
+    plan_writer::write_plan(l.n, &l.edges, &g.sv, &g.st, &g.sh, &mut bytes);
     CarriedPlan {
         len: bytes[0] as usize * PAIR_WIDTH + 1,
-        bytes: bytes,
+        bytes,
     }
 }

@@ -1,6 +1,6 @@
 // Days for the entries of a plan (W-209), over arrays: entry by entry a day that is free at both its ends, or one that is free at its surveyor; an
 // entry of its stand that is on that day goes to another, and so on along a chain. Days are counted from 0 here; the sheet's bytes are one more.
-// Two tables, by surveyor and by stand, tell for each node and day which entry is there: its number, counted from 1, or 0.
+// Two tables, by surveyor and by stand, tell for each node and day which entry is there: its number, counted from 1, or 0, one byte as the laws of the tables read it (Tables.Held).
 #![tactic(auto)]
 
 ghost use Rattle.std.specs.Prelude.{◌≡◌, map, ◌++◌, ℕ, suc, ◌+◌, ◌≤◌, ◌<◌, length, set, take, drop, eqb};
@@ -22,6 +22,21 @@ use limits::{ENTRY_LIMIT, LAST_DAY, PLAN_LIMIT};
 const ROW: usize = 16;
 
 const PLACES: usize = 512;
+
+// The ends of the entries on both sides.
+#[derive(Drop)]
+pub struct EntryEnds {
+    pub surveyors: [u8; PLAN_LIMIT],
+    pub stands: [u8; PLAN_LIMIT],
+}
+
+// The day of each entry, and the tables that tell who is at a node on a day.
+#[derive(Drop)]
+pub struct Sheet {
+    pub day: [u8; PLAN_LIMIT],
+    pub at_surveyors: [u8; PLACES],
+    pub at_stands: [u8; PLACES],
+}
 
 // The ends of a plan's n entries on one side, in the plan's order; 0 behind them.
 pub fn ends(n: usize, es: &[u16; PLAN_LIMIT], end: &[u8; ENTRY_LIMIT]) -> [u8; PLAN_LIMIT]
@@ -71,92 +86,75 @@ pub fn free_day(end: &[u8; PLAN_LIMIT], k: usize, who: &[u8; PLACES]) -> u8
     ensures { result ≡ low (λ d. eqb (at who.now (place (at end.now k) d)) 0) last_day }
 {
     let row = ROW * (end[k] as usize);
-    let mut d: u8 = 0;
-    while d < LAST_DAY {
+    for d in 0..LAST_DAY {
         if who[row + d as usize] == 0 {
             return d;
         }
-        d += 1;
     }
-    d
+    LAST_DAY
 }
 
 // Entry k has day a; each entry that it and those after it meet takes the other of the two days, at stands b, at surveyors a. Fewer entries than n
 // change their days, so that the last to be settled meets nobody.
-pub fn chase(
-    n: usize,
-    sv: &[u8; PLAN_LIMIT],
-    st: &[u8; PLAN_LIMIT],
-    a: u8,
-    b: u8,
-    k: usize,
-    day: &mut [u8; PLAN_LIMIT],
-    ws: &mut [u8; PLACES],
-    wt: &mut [u8; PLACES],
-)
-    requires { Chasing n sv.now st.now a b k day.old ws.old wt.old }
-    ensures { (day.new ≡ chase_in n sv.now st.now a b n k day.old)
-        × Held n sv.now day.new ws.new × Held n st.now day.new wt.new }
+pub fn chase(n: usize, ends: &EntryEnds, a: u8, b: u8, k: usize, sheet: &mut Sheet)
+    requires { Chasing n ends.now.surveyors ends.now.stands a b k sheet.old.day sheet.old.at_surveyors sheet.old.at_stands }
+    ensures { (sheet.new.day ≡ chase_in n ends.now.surveyors ends.now.stands a b n k sheet.old.day)
+        × Held n ends.now.surveyors sheet.new.day sheet.new.at_surveyors × Held n ends.now.stands sheet.new.day sheet.new.at_stands }
 {
     let mut cur = k;
     for i in 0..n {
-        let e = settle(st, cur, a, b, &mut *wt);
+        let e = settle(&ends.stands, cur, a, b, &mut sheet.at_stands);
         if e == 0 {
             return;
         }
         let x = (e - 1) as usize;
-        day[x] = b;
-        let f = settle(sv, x, b, a, &mut *ws);
+        sheet.day[x] = b;
+        let f = settle(&ends.surveyors, x, b, a, &mut sheet.at_surveyors);
         if f == 0 {
             return;
         }
         cur = (f - 1) as usize;
-        day[cur] = a;
+        sheet.day[cur] = a;
     }
-    settle(st, cur, a, b, &mut *wt);
+    settle(&ends.stands, cur, a, b, &mut sheet.at_stands);
 }
 
 // One entry more, the k-th: the first day free at its stand, if it is free at its surveyor too; else a day free at the surveyor, mended at the
 // stand.
-pub fn with_day(
-    k: usize,
-    sv: &[u8; PLAN_LIMIT],
-    st: &[u8; PLAN_LIMIT],
-    day: &mut [u8; PLAN_LIMIT],
-    ws: &mut [u8; PLACES],
-    wt: &mut [u8; PLACES],
-)
-    requires { Placing k sv.now st.now day.old ws.old wt.old }
-    ensures { (day.new ≡ with_day_in k sv.now st.now day.old)
-        × Held (k + 1) sv.now day.new ws.new
-        × Held (k + 1) st.now day.new wt.new }
+pub fn with_day(k: usize, ends: &EntryEnds, sheet: &mut Sheet)
+    requires { Placing k ends.now.surveyors ends.now.stands sheet.old.day sheet.old.at_surveyors sheet.old.at_stands }
+    ensures { (sheet.new.day ≡ with_day_in k ends.now.surveyors ends.now.stands sheet.old.day)
+        × Held (k + 1) ends.now.surveyors sheet.new.day sheet.new.at_surveyors
+        × Held (k + 1) ends.now.stands sheet.new.day sheet.new.at_stands }
 {
-    let b = free_day(st, k, wt);
-    if who_at(sv, k, b, ws) == 0 {
-        day[k] = b;
-        tell(sv, k, b, &mut *ws);
-        tell(st, k, b, &mut *wt);
+    let b = free_day(&ends.stands, k, &sheet.at_stands);
+    if who_at(&ends.surveyors, k, b, &sheet.at_surveyors) == 0 {
+        sheet.day[k] = b;
+        tell(&ends.surveyors, k, b, &mut sheet.at_surveyors);
+        tell(&ends.stands, k, b, &mut sheet.at_stands);
         return;
     }
-    let a = free_day(sv, k, ws);
-    day[k] = a;
-    tell(sv, k, a, &mut *ws);
-    chase(k + 1, sv, st, a, b, k, &mut *day, &mut *ws, &mut *wt);
+    let a = free_day(&ends.surveyors, k, &sheet.at_surveyors);
+    sheet.day[k] = a;
+    tell(&ends.surveyors, k, a, &mut sheet.at_surveyors);
+    chase(k + 1, ends, a, b, k, sheet);
 }
 
 // The days of n entries by their ends, no more of them at one node than there are days.
-pub fn days_of(n: usize, sv: &[u8; PLAN_LIMIT], st: &[u8; PLAN_LIMIT]) -> [u8; PLAN_LIMIT]
-    requires { (n ≤ day_size) × Low n sv.now node_limit × Low n st.now node_limit
-        × ((v : ℕ) → count (λ j. eqb (at sv.now j) v) n ≤ last_day) × ((v : ℕ) → count (λ j. eqb (at st.now j) v) n ≤ last_day) }
-    ensures { result ≡ spread_in n sv.now st.now }
+pub fn days_of(n: usize, ends: &EntryEnds) -> [u8; PLAN_LIMIT]
+    requires { (n ≤ day_size) × Low n ends.now.surveyors node_limit × Low n ends.now.stands node_limit
+        × ((v : ℕ) → count (λ j. eqb (at ends.now.surveyors j) v) n ≤ last_day) × ((v : ℕ) → count (λ j. eqb (at ends.now.stands j) v) n ≤ last_day) }
+    ensures { result ≡ spread_in n ends.now.surveyors ends.now.stands }
 {
-    let mut ws = [0u8; PLACES];
-    let mut wt = [0u8; PLACES];
-    let mut day = [0u8; PLAN_LIMIT];
+    let mut sheet = Sheet {
+        day: [0u8; PLAN_LIMIT],
+        at_surveyors: [0u8; PLACES],
+        at_stands: [0u8; PLACES],
+    };
     for k in 0..n {
-        with_day(k, sv, st, &mut day, &mut ws, &mut wt);
+        with_day(k, ends, &mut sheet);
     }
-    day
+    sheet.day
 }
 
 // The first n days, counted from 1, into a buffer's front.
@@ -184,6 +182,10 @@ pub fn spread(
 {
     let s = ends(n, es, sv);
     let t = ends(n, es, st);
-    let day = days_of(n, &s, &t);
+    let both = EntryEnds {
+        surveyors: s,
+        stands: t,
+    };
+    let day = days_of(n, &both);
     put_days(n, &day, &mut *out);
 }

@@ -1,5 +1,5 @@
 -- The edge that a pair names, looked for from a place on: among edges that differ in an end or in the shift, it is the lowest.
-use Rattle.std.specs.Prelude.{ℕ, suc, ◌+◌, ◌≤◌, ◌<◌, ◌≡◌, Bool, false, not, ◌&&◌, List, T, eqb}
+use Rattle.std.specs.Prelude.{ℕ, suc, ◌+◌, ◌≤◌, ◌<◌, ◌≡◌, Bool, false, not, ◌&&◌, List, Option, None, Some, T, eqb}
 use Rattle.std.proofs.Common.{arith, sym, ap, ap₂, ◌∙◌, subst, eqb→eq, T_not}
 use Rattle.std.proofs.Math.Decide.{dec_lt}
 use Rattle.std.proofs.Math.Logic.{by_cases}
@@ -19,6 +19,11 @@ Names sv st sh x y z e = eqb (suc (at sv e)) x && (eqb (suc (at st e)) y && eqb 
 -- edge e has the surveyor s, the stand t and the shift z
 abbrev pub Ends : (sv st sh : List ℕ) (s t z : ℕ) → ℕ → Bool
 Ends sv st sh s t z e = eqb (at sv e) s && (eqb (at st e) t && eqb (at sh e) z)
+
+-- an edge that may be none, as a number: the end of the search then
+abbrev pub edge_or : (end : ℕ) → Option ℕ → ℕ
+edge_or end (Some e) = e
+edge_or end None = end
 
 -- the lowest from start on and below end, or end
 pub record Scanned (start end : ℕ) (sv st sh : List ℕ) (s t z r : ℕ) : Type 0 where

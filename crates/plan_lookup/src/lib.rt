@@ -2,13 +2,14 @@
 // it take, and the edges of a plan listed.
 #![tactic(auto)]
 
-ghost use Rattle.std.specs.Prelude.{◌≡◌, ◌≤◌, length, leb};
+ghost use Rattle.std.specs.Prelude.{◌≡◌, ◌≤◌, ◌<◌, length, leb};
+ghost use Rattle.std.specs.Option.{IfSome};
 ghost use Rattle.lists.specs.Search.{low};
 ghost use Rattle.model.specs.Limits.{entry_limit, plan_limit, node_limit};
 ghost use Rattle.model.specs.PlanFile.{edges_in};
 ghost use Rattle.arrays.specs.ArrayInstance.{flag, at};
 ghost use Rattle.answers.specs.RefusalCases.{code_of};
-ghost use Rattle.plan_lookup.specs.PairEdge.{Differ, Names, Scanned};
+ghost use Rattle.plan_lookup.specs.PairEdge.{Differ, Names, Scanned, edge_or};
 ghost use Rattle.arrays.specs.Passes.{Low};
 ghost use Rattle.plan_lookup.specs.PairRefusal.{pair_refusal};
 ghost use Rattle.plan_lookup.specs.PlanEdges as edges;
@@ -46,7 +47,7 @@ pub fn check_pair(
     Ok(())
 }
 
-// the lowest edge from start on, and below end, of surveyor s and stand t in shift k; end if there is none
+// the lowest edge from start on, and below end, of surveyor s and stand t in shift k
 pub(crate) fn scan(
     start: usize,
     end: usize,
@@ -56,18 +57,17 @@ pub(crate) fn scan(
     s: u8,
     t: u8,
     k: u8,
-) -> usize
+) -> Option<usize>
     requires { (start ≤ end) × (end ≤ entry_limit) }
-    ensures { Scanned start end sv.now st.now sh.now s t k result }
+    ensures inside { IfSome result (λ e. e < end) }
+    ensures scanned { Scanned start end sv.now st.now sh.now s t k (edge_or end result) }
 {
-    let mut e = start;
-    while e < end {
+    for e in start..end {
         if (sv[e] == s) & ((st[e] == t) & (sh[e] == k)) {
-            return e;
+            return Some(e);
         }
-        e += 1;
     }
-    e
+    None
 }
 
 // the edge that three bytes name, m if there is none; from is where the next edge of an ascending plan is looked for first
@@ -92,18 +92,16 @@ pub fn edge_of(
     }
     let s = x - 1;
     let t = y - 1;
-    let e = scan(from, m, sv, st, sh, s, t, k);
-    if e < m {
+    if let Some(e) = scan(from, m, sv, st, sh, s, t, k) {
         return e;
     }
-    let d = scan(0, from, sv, st, sh, s, t, k);
-    if d < from {
+    if let Some(d) = scan(0, from, sv, st, sh, s, t, k) {
         return d;
     }
     m
 }
 
-// The edges of a plan, ascending: n of them.
+// The edges of a plan, ascending: n of them, in an array with its number since memory is fixed.
 #[derive(Drop)]
 pub struct Listed {
     pub n: usize,

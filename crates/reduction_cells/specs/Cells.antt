@@ -1,5 +1,5 @@
 -- The strict edges of a side by node and rank: one array, a cell for each node and rank, with the edge there, m if there is none.
-use Rattle.std.specs.Prelude.{ℕ, zero, suc, ◌+◌, ◌*◌, ◌-◌, ◌≤◌, ◌<◌, ◌≡◌, refl, Bool, true, false, not, cond, ◌&&◌, List, length, T, eqb, ltb, leb}
+use Rattle.std.specs.Prelude.{ℕ, zero, suc, ◌+◌, ◌*◌, ◌-◌, ◌≤◌, ◌<◌, ◌≡◌, Bool, true, not, cond, ◌&&◌, List, length, T, eqb, ltb, leb}
 use Rattle.std.proofs.Common.{arith, add-one, sym, ap, ◌∙◌, subst, eqb→eq, ltb→lt, lt-ltb}
 use Rattle.lists.specs.Test.{and_l, and_r, bit, bit_one, if-ind}
 use Rattle.lists.specs.Search.{low, low_is, low_hit}
@@ -101,10 +101,6 @@ module _ (m : ℕ) (cell : List ℕ) (p : ℕ → Bool) (v : ℕ) where
 
   pub worst_none : (k : ℕ) → low in_worst k ≡ k → k ≡ empty_rank → m ≡ worst_of m cell p v
   worst_none = search_none m in_worst (λ k. in_cell cell v (32 - k))
-
-pub bit_is : (b : Bool) → bit b ≡ 1 → b ≡ true
-bit_is true h = refl
-bit_is false h = absurd (omega arith)
 
 module _ (m : ℕ) (end rank : List ℕ) (tied : List Bool) (cell : List ℕ) (C : Celled m end rank tied cell) where
   cell_inside : (v r : ℕ) → v < node_limit → r < empty_rank → in_cell cell v r ≤ m

@@ -3,7 +3,6 @@
 #![tactic(auto)]
 
 ghost use Rattle.std.specs.Prelude.{◌≡◌, ◌&&◌, ◌||◌, false, ◌+◌, ◌≤◌, ◌<◌, length};
-ghost use Rattle.lists.specs.Test.{bit};
 ghost use Rattle.model.specs.Limits.{entry_limit, node_limit, empty_rank};
 ghost use Rattle.arrays.specs.ArrayInstance.{at, flag};
 ghost use Rattle.arrays.specs.Passes.{Low};
@@ -31,9 +30,7 @@ pub fn cells(
     ensures { (length cell.new ≡ length cell.old)
         × Celled m end.now rank.now tied.now cell.new }
 {
-    let mut i = m;
-    while i > 0 {
-        i -= 1;
+    for i in (0..m).rev() {
         if !tied[i] {
             let v = end[i] as usize;
             let r = rank[i] as usize;
@@ -42,15 +39,15 @@ pub fn cells(
     }
 }
 
-// 1 if an edge is in p, 0 if not or if there is none.
-pub fn held(m: usize, p: &[bool; ENTRY_LIMIT], e: usize) -> u16
+// Whether there is an edge, and it is in p.
+pub fn held(m: usize, p: &[bool; ENTRY_LIMIT], e: usize) -> bool
     requires { m ≤ entry_limit }
-    ensures { result ≡ bit (edge_in m (flag p.now) e) }
+    ensures { result ≡ edge_in m (flag p.now) e }
 {
     if e < m {
-        return p[e] as u16;
+        return p[e];
     }
-    0
+    false
 }
 
 // The first rank that q edges of p are better than at v, 33 if there is none.
@@ -60,19 +57,17 @@ pub fn bar(m: usize, table: &[u16; TABLE], v: usize, p: &[bool; ENTRY_LIMIT], q:
 {
     let b = v * EMPTY_RANK;
     let mut c: u16 = 0;
-    let mut r: usize = 0;
-    while r < EMPTY_RANK {
+    for r in 0..EMPTY_RANK {
         if q <= c {
             return r as u8;
         }
         let e = table[b + r] as usize;
-        c += held(m, p, e);
-        r += 1;
+        c += held(m, p, e) as u16;
     }
-    r as u8
+    EMPTY_RANK as u8
 }
 
-// The best edge of p at v, m if there is none.
+// The best edge of p at v, m if there is none: it is entered as a number in a row whose least is taken.
 pub fn best(m: usize, table: &[u16; TABLE], v: usize, p: &[bool; ENTRY_LIMIT]) -> usize
     requires { (v < node_limit) × Spread m table.now }
     ensures { result ≡ best_of m table.now (flag p.now) v }
@@ -80,7 +75,7 @@ pub fn best(m: usize, table: &[u16; TABLE], v: usize, p: &[bool; ENTRY_LIMIT]) -
     let b = v * EMPTY_RANK;
     for r in 0..EMPTY_RANK {
         let e = table[b + r] as usize;
-        if held(m, p, e) == 1 {
+        if held(m, p, e) {
             return e;
         }
     }
@@ -152,17 +147,16 @@ pub fn paint(
     let b = v * EMPTY_RANK;
     let mut c: u16 = 0;
     let mut n: usize = 0;
-    let mut r: usize = 0;
-    while r < EMPTY_RANK {
+    for r in 0..EMPTY_RANK {
         let e = table[b + r] as usize;
-        r += 1;
-        if e < m {
-            let on = rem[e] & (c < q);
-            turned[n] = other[e];
-            n += (on != f[e]) as usize;
-            f[e] = on;
-            c += rem[e] as u16;
+        if m <= e {
+            continue;
         }
+        let on = rem[e] & (c < q);
+        turned[n] = other[e];
+        n += (on != f[e]) as usize;
+        f[e] = on;
+        c += rem[e] as u16;
     }
     n
 }

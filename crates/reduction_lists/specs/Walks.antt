@@ -21,6 +21,10 @@ use Rattle.reduction_lists.specs.Listed.{Listed, Shelved, table_size, begin, tal
 abbrev pub at_node : (end : List ℕ) (v : ℕ) (q : ℕ → Bool) → ℕ → Bool
 at_node end v q d = eqb (at end d) v && q d
 
+-- the one answer of a test of edges: whatever a call of it may return is what q says
+abbrev pub Decides : (m : ℕ) (post : ℕ → Bool → Type 0) (q : ℕ → Bool) → Type 0
+Decides m post q = (e : ℕ) (b : Bool) → e < m → post e b → b ≡ q e
+
 -- the place behind k, where e is, has a later edge, or m
 abbrev pub Next : (m : ℕ) (table : List ℕ) (k e : ℕ) → Type 0
 Next m table k e = (k + 1 < table_size) × (at table (k + 1) ≤ m) × (e < at table (k + 1)) × (m ≤ entry_limit)
@@ -103,7 +107,19 @@ module _ {m : ℕ} {end table : List ℕ} (L : Listed m end table) {v : ℕ} (w 
   off : (q : ℕ → Bool) (d : ℕ) → at end d ≢ v → at_node end v q d ≡ false
   off q d n = ap (λ b. b && q d) (eqb_no (at end d) v n)
 
+  -- no list goes on to the end of the table
+  stood_over : (k e : ℕ) → table_size ≤ k → Stood m end table v k e → e ≡ m
+  stood_over k e h S = by_cases (dec_lt e m)
+      (λ l. absurd (omega (arith, h, S.place, before_less end v e m l (S.here l), (L.nodes v w).room)))
+      (λ n. omega (arith, S.inside))
+
   module _ {q : ℕ → Bool} where
+    pub walk_over : {k e : ℕ} → table_size ≤ k → Walked m end table v q k e → m ≤ e
+    walk_over {k} {e} h W = omega (arith, stood_over k e h W.at_edge)
+
+    pub count_over : {k e c : ℕ} → table_size ≤ k → Counted m end table v q k e c → m ≤ e
+    count_over {k} {e} h W = omega (arith, stood_over k e h W.at_edge)
+
     pub walk_starts : Walked m end table v q (begin table v) (at table (begin table v))
     walk_starts = record { at_edge = stood_first; none = λ d l. off q d (starts.none d zero-le l) }
 
@@ -155,8 +171,8 @@ module _ {m : ℕ} {end table : List ℕ} {v : ℕ} {q : ℕ → Bool} where
   walk_hit {k} {e} l W t =
       sym (low_hit (at_node end v q) e m (low_none (at_node end v q) e W.none) (ap₂ ◌&&◌ (eqb_yes (at end e) v (W.at_edge.here l)) t) l)
 
-  pub walk_ends : {k e : ℕ} → m ≤ e → Walked m end table v q k e → e ≡ low (at_node end v q) m
-  walk_ends {k} {e} h W = let i : e ≡ m = omega (arith, W.at_edge.inside) in i ∙ sym (low_none (at_node end v q) m (λ d l. W.none d (omega arith)))
+  pub walk_ends : {k e : ℕ} → m ≤ e → Walked m end table v q k e → m ≡ low (at_node end v q) m
+  walk_ends {k} {e} h W = sym (low_none (at_node end v q) m (λ d l. W.none d (omega arith)))
 
   pub count_ends : {k e c : ℕ} → m ≤ e → Counted m end table v q k e c → c ≡ tallied end v q m
   count_ends {k} {e} {c} h W = let i : e ≡ m = omega (arith, W.at_edge.inside) in W.is ∙ ap (tallied end v q) i
@@ -164,21 +180,12 @@ module _ {m : ℕ} {end table : List ℕ} {v : ℕ} {q : ℕ → Bool} where
   pub count_small : {k e c : ℕ} → Counted m end table v q k e c → (c ≤ e) × (bool_byte (q e) ≤ 1)
   count_small {k} {e} {c} W = (omega (arith, W.is, count_≤ (λ d. q d && eqb (at end d) v) e), byte_one (q e))
 
--- ---- what a loop along v's list keeps, of all ends whose lists these are: a walk to an edge, and one that counts
-abbrev pub Walks : (m : ℕ) (table : List ℕ) (v : ℕ) (q : ℕ → Bool) (k e : ℕ) → Type 0
-Walks m table v q k e = (end : List ℕ) → Listed m end table → Walked m end table v q k e
-
+-- ---- what a loop that counts keeps along v's list, of all ends whose lists these are
 abbrev pub Counts : (m : ℕ) (table : List ℕ) (v : ℕ) (q : ℕ → Bool) (k e c : ℕ) → Type 0
 Counts m table v q k e c = (end : List ℕ) → Listed m end table → Counted m end table v q k e c
 
--- so the places that it reads are in the table, the first one and the next one
+-- so the next place is in the table, and few are counted
 module _ {m : ℕ} {table : List ℕ} {v : ℕ} (p : (v < node_limit) × Shelved m table) where
-  pub first_read : (begin table v < table_size) × (at table (begin table v) ≤ m) × (m ≤ entry_limit)
-  first_read = first_place p.1.1 p.0
-
-  pub next_walked : {q : ℕ → Bool} {k e : ℕ} → Walks m table v q k e → e < m → Next m table k e
-  next_walked {q} {k} {e} W l = next_place p.1.1 p.0 k e l (W p.1.0 p.1.1).at_edge
-
   pub next_counted : {q : ℕ → Bool} {k e c : ℕ} → Counts m table v q k e c → e < m → Next m table k e
   next_counted {q} {k} {e} W l = next_place p.1.1 p.0 k e l (W p.1.0 p.1.1).at_edge
 

@@ -1,8 +1,8 @@
 // The edges of each node side by side in its side's table, ascending, and walks along them: to the lowest edge that passes a test, or counting those
-// that do. A walk goes over the edges of one node only, and no place waits for the one before it, as it would along links.
+// that do; the test is the caller's closure. A walk goes over the edges of one node only, and no place waits for the one before it, as it would along links.
 #![tactic(auto)]
 
-ghost use Rattle.std.specs.Prelude.{◌≡◌, ◌&&◌, ◌||◌, not, List, ℕ, ◌+◌, ◌≤◌, ◌<◌, length, leb};
+ghost use Rattle.std.specs.Prelude.{◌≡◌, ◌&&◌, ◌||◌, not, Bool, List, ℕ, ◌+◌, ◌≤◌, ◌<◌, length, leb};
 ghost use Rattle.lists.specs.Search.{low};
 ghost use Rattle.model.specs.Limits.{entry_limit, node_limit};
 ghost use Rattle.arrays.specs.ArrayInstance.{at, flag};
@@ -10,7 +10,7 @@ ghost use Rattle.arrays.specs.Passes.{Low};
 ghost use Rattle.arrays.specs.Linked.{Linked};
 ghost use Rattle.reduction_cells.specs.Cells.{cell_count};
 ghost use Rattle.reduction_lists.specs.Listed.{Listed, Shelved, Put, table_size, before, tallied};
-ghost use Rattle.reduction_lists.specs.Walks.{at_node};
+ghost use Rattle.reduction_lists.specs.Walks.{at_node, Decides};
 
 use limits::ENTRY_LIMIT;
 use reduction_cells::{CELLS, TABLE};
@@ -18,7 +18,7 @@ use reduction_cells::{CELLS, TABLE};
 // Where the lists begin; there is a place for each edge, and one more for each node.
 const LISTS: usize = 1088;
 
-// The edges of v, from place k on, and m behind them. The next free place is returned.
+// The edges of v, from place k on, and m behind them. The next free place is returned. The walk goes along links, so that it counts no index.
 pub(crate) fn put(
     m: usize,
     end: &[u8; ENTRY_LIMIT],
@@ -57,6 +57,30 @@ pub fn lists(m: usize, end: &[u8; ENTRY_LIMIT], table: &mut [u16; TABLE])
     }
 }
 
+// The lowest edge of a node that passes a test, m if none does. The list ends inside the table, so that the last line is only for the check.
+pub(crate) fn first<F: Fn(usize) -> bool>(
+    m: usize,
+    table: &[u16; TABLE],
+    v: usize,
+    passes: F,
+) -> usize
+    requires shelved { (v < node_limit) × Shelved m table.now }
+    requires callable { (e : ℕ) → e < m → F.pre passes e }
+    ensures { (end : List ℕ) (q : ℕ → Bool) → Listed m end table.now → Decides m (F.post passes) q
+        → result ≡ low (at_node end v q) m }
+{
+    for k in table[CELLS + v] as usize..TABLE {
+        let e = table[k] as usize;
+        if m <= e {
+            break;
+        }
+        if passes(e) {
+            return e;
+        }
+    }
+    m
+}
+
 // The lowest edge of a node in p whose rank is at least the bar, m if there is none.
 pub fn behind(
     m: usize,
@@ -70,16 +94,7 @@ pub fn behind(
     ensures { (end : List ℕ) → Listed m end table.now
         → result ≡ low (at_node end v (λ d. flag p.now d && leb bar (at rank.now d))) m }
 {
-    let mut k = table[CELLS + v] as usize;
-    let mut e = table[k] as usize;
-    while e < m {
-        if p[e] & (bar <= rank[e]) {
-            return e;
-        }
-        k += 1;
-        e = table[k] as usize;
-    }
-    e
+    first(m, table, v, |e| p[e] & (bar <= rank[e]))
 }
 
 // The lowest edge of a node in both p and q.
@@ -94,19 +109,10 @@ pub fn both(
     ensures { (end : List ℕ) → Listed m end table.now
         → result ≡ low (at_node end v (λ d. flag p.now d && flag q.now d)) m }
 {
-    let mut k = table[CELLS + v] as usize;
-    let mut e = table[k] as usize;
-    while e < m {
-        if p[e] & q[e] {
-            return e;
-        }
-        k += 1;
-        e = table[k] as usize;
-    }
-    e
+    first(m, table, v, |e| p[e] & q[e])
 }
 
-// How many edges of a node are in p, and how many in q.
+// How many edges of a node are in p, and how many in q. Both are counted in one walk, since two calls of `count` would go along the list twice.
 #[derive(Drop)]
 pub struct TwoTallies {
     pub p: u16,
@@ -126,15 +132,37 @@ pub fn tallies(
 {
     let mut c: u16 = 0;
     let mut d: u16 = 0;
-    let mut k = table[CELLS + v] as usize;
-    let mut e = table[k] as usize;
-    while e < m {
+    for k in table[CELLS + v] as usize..TABLE {
+        let e = table[k] as usize;
+        if m <= e {
+            break;
+        }
         c += p[e] as u16;
         d += q[e] as u16;
-        k += 1;
-        e = table[k] as usize;
     }
     TwoTallies { p: c, q: d }
+}
+
+// How many edges of a node pass a test.
+pub(crate) fn count<F: Fn(usize) -> bool>(
+    m: usize,
+    table: &[u16; TABLE],
+    v: usize,
+    passes: F,
+) -> u16
+    requires shelved { (v < node_limit) × Shelved m table.now }
+    requires callable { (e : ℕ) → e < m → F.pre passes e }
+    ensures { (end : List ℕ) (q : ℕ → Bool) → Listed m end table.now → Decides m (F.post passes) q → result ≡ tallied end v q m }
+{
+    let mut c: u16 = 0;
+    for k in table[CELLS + v] as usize..TABLE {
+        let e = table[k] as usize;
+        if m <= e {
+            break;
+        }
+        c += passes(e) as u16;
+    }
+    c
 }
 
 // How many edges of a node are in N(s): they remain, and their other end is loose or sends an arrow.
@@ -151,16 +179,10 @@ pub fn size(
     ensures { (end : List ℕ) → Listed m end table.now → result ≡ tallied end v
         (λ d. flag rem.now d && (flag lo.now (at other.now d) || flag f.now d)) m }
 {
-    let mut c: u16 = 0;
-    let mut k = table[CELLS + v] as usize;
-    let mut e = table[k] as usize;
-    while e < m {
+    count(m, table, v, |e| {
         let w = other[e] as usize;
-        c += (rem[e] & (lo[w] | f[e])) as u16;
-        k += 1;
-        e = table[k] as usize;
-    }
-    c
+        rem[e] & (lo[w] | f[e])
+    })
 }
 
 // The lowest edge of a node that remains, has no arrow, and whose other end is not loose.
@@ -179,15 +201,8 @@ pub fn idle(
         (λ d. flag rem.now d
         && (not (flag lo.now (at other.now d)) && (not (flag fs.now d) && not (flag ft.now d))))) m }
 {
-    let mut k = table[CELLS + v] as usize;
-    let mut e = table[k] as usize;
-    while e < m {
+    first(m, table, v, |e| {
         let w = other[e] as usize;
-        if rem[e] & (!lo[w] & (!fs[e] & !ft[e])) {
-            return e;
-        }
-        k += 1;
-        e = table[k] as usize;
-    }
-    e
+        rem[e] & (!lo[w] & (!fs[e] & !ft[e]))
+    })
 }

@@ -1,10 +1,14 @@
 -- What a run keeps by node beside its state: for rules 1 and 2 the lowest edge that they name at each node, and for the later rules the same at each
 -- node that is not marked old. All of it speaks of the arrays alone. The later numbers of surveyors are those of the stored looseness of stands.
-use Rattle.std.specs.Prelude.{ℕ, ◌<◌, ◌≡◌, refl, Bool, true, false, cond, ◌&&◌, List, length, get_or, replicate, T, ltb}
-use Rattle.std.proofs.Common.{arith, sym, ap, ◌∙◌, subst, nltb→le, lt-ltb}
+use Rattle.std.specs.Prelude.{not, ℕ, ◌<◌, ◌≡◌, refl, Bool, true, false, cond, ◌&&◌, List, length, get_or, replicate, T}
+use Rattle.std.proofs.Common.{sym, ap, ◌∙◌, subst, lt-ltb}
 use Rattle.std.proofs.lemmas.List.{get_or-replicate}
-use Rattle.lists.specs.Test.{by_bool, T_false, false_t, given}
-use Rattle.lists.specs.Search.{low, low_is}
+use Rattle.std.proofs.lemmas.Bool.{not-false}
+use Rattle.std.proofs.lemmas.Slice.Eq.{slice_eq-Decides}
+use Rattle.std.specs.Cmp.{booleans_Decides}
+use lib.Pointwise.{pointwise}
+use mathlib.Core.Bool.{beq}
+use Rattle.lists.specs.Test.{by_bool, given}
 use Rattle.model.specs.Limits.{entry_limit, node_limit, empty_rank}
 use Rattle.model.specs.Instance.{surveyors, stands}
 use Rattle.arrays.specs.ArrayInstance.{at, flag}
@@ -12,9 +16,10 @@ use Rattle.arrays.specs.Passes.{Low, all_blank}
 use Rattle.reduction_lists.specs.Listed.{Listed}
 use Rattle.reduction_cells.specs.Cells.{Celled, Spread, Owned}
 use Rattle.reduction_cells.specs.CellLaws.{Cells, celled_is}
-use Rattle.reduction_cells.specs.Painted.{differ}
 use Rattle.reduction_nodes.specs.declared.Surveyor.{Surveyor}
 use Rattle.reduction_nodes.specs.declared.Stand.{Stand}
+use Rattle.reduction_nodes.specs.declared.EdgeTables.{EdgeTables}
+use Rattle.reduction_nodes.specs.declared.LateNumbers.{LateNumbers}
 use Rattle.reduction_nodes.specs.Known.{Edges, Known, instance_of}
 use Rattle.reduction_nodes.specs.Renewed.{Renewed}
 use Rattle.reduction_nodes.specs.Numbers.{Readable, first_of, seconds_of, surveyors_of, stands_of, Surveyors, Stands}
@@ -84,6 +89,10 @@ edges m sv st rs rt = record { m = m; sv = sv; st = st; rs = rs; rt = rt }
 abbrev pub node_lists : (ts tu : List ℕ) → NodeLists
 node_lists ts tu = record { table_s = ts; table_t = tu }
 
+-- the same of the tables that a run makes
+abbrev pub tables_of : EdgeTables → NodeLists
+tables_of T = node_lists T.surveyors T.stands
+
 -- what the rules look at, from the arrays
 abbrev pub looks : (rem fs ft : List Bool) (qs qt : List ℕ) → Looks
 looks rem fs ft qs qt = record { rem = rem; fs = fs; ft = ft; qs = qs; qt = qt }
@@ -106,6 +115,13 @@ pub record SizedL (lates latet : List (List ℕ)) (loose olds oldt : List Bool) 
   pub size_l : length loose ≡ node_limit
   pub size_s : length olds ≡ node_limit
   pub size_t : length oldt ≡ node_limit
+
+-- both of the numbers that a run carries
+abbrev pub later_of : LateNumbers → Later
+later_of x = later x.surveyors x.stands x.loose x.due.surveyors x.due.stands
+
+abbrev pub SizedLate : LateNumbers → Type 0
+SizedLate x = SizedL x.surveyors x.stands x.loose x.due.surveyors x.due.stands
 
 -- the numbers of one node, of all nodes of a side
 abbrev pub surveyor_at : Surveyors → ℕ → Surveyor
@@ -186,12 +202,9 @@ surveyed_at new due x y S v w false t = λ k. record {
   rule6 = renewed_at 0 due (λ v. (new v).rule6) x.rule6 y.rule6 S.rule6 v w false t k;
 }
 
--- two arrays in which no node is unlike
-alike : (a b : Bool) → differ a b ≡ false → a ≡ b
-alike true true h = refl
-alike true false h = h
-alike false true h = sym h
-alike false false h = refl
+-- what `!=` says of two arrays
+pub same_flags : (a b : List Bool) (r : Bool) → r ≡ not (pointwise beq a b) → r ≡ false → a ≡ b
+same_flags a b r q h = (slice_eq-Decides booleans_Decides a b (pointwise beq a b) refl).0 (not-false (pointwise beq a b) (sym q ∙ h))
 
 -- ---- the old numbers made anew: first those of stands; where none is loose that was not, or the other way round, the surveyors' fresh ones stay
 module _ (A : Edges) (L : NodeLists) (D : Tables A L) (X : Looks) (x : Later) (K : Lates A L X x) (y : Stands)
@@ -201,43 +214,37 @@ module _ (A : Edges) (L : NodeLists) (D : Tables A L) (X : Looks) (x : Later) (K
       (λ t. stood_at (stand_now A L X) x.oldt x.stands y S v w false t ∙ K.stand v w t)
 
   -- which surveyors are read anew: all, if some stand's looseness turned
-  abbrev pub touched : List Bool
-  touched = cond (ltb (low (λ v. differ (flag x.stands.loose v) (flag y.loose v)) node_limit) node_limit) (replicate node_limit true) x.olds
+  module _ (turned : Bool) (kept : turned ≡ false → x.stands.loose ≡ y.loose) where
+    abbrev pub touched : List Bool
+    touched = cond turned (replicate node_limit true) x.olds
 
-  untouched : (v : ℕ) → v < node_limit → flag touched v ≡ false → (flag x.olds v ≡ false)
-      × ((u : ℕ) → u < node_limit → flag y.loose u ≡ flag x.stands.loose u)
-  untouched v w = go (ltb (low unlike node_limit) node_limit) refl
-    where
-      unlike : ℕ → Bool
-      unlike v = differ (flag x.stands.loose v) (flag y.loose v)
+    untouched : (v : ℕ) → v < node_limit → flag touched v ≡ false → (flag x.olds v ≡ false)
+        × ((u : ℕ) → u < node_limit → flag y.loose u ≡ flag x.stands.loose u)
+    untouched v w h = go turned refl h
+      where
+        go : (b : Bool) → turned ≡ b → flag (cond b (replicate node_limit true) x.olds) v ≡ false
+            → (flag x.olds v ≡ false) × ((u : ℕ) → u < node_limit → flag y.loose u ≡ flag x.stands.loose u)
+        go true e h = absurd (subst T (sym (get_or-replicate node_limit v true false w) ∙ h) tt)
+        go false e h = (h, λ u k. ap (λ f. flag f u) (sym (kept e)))
 
-      go : (b : Bool) → ltb (low unlike node_limit) node_limit ≡ b → flag (cond b (replicate node_limit true) x.olds) v ≡ false
-          → (flag x.olds v ≡ false) × ((u : ℕ) → u < node_limit → flag y.loose u ≡ flag x.stands.loose u)
-      go true e h = absurd (subst T (sym (get_or-replicate node_limit v true false w) ∙ h) tt)
-      go false e h = (
-        h,
-        λ u k. sym (alike (flag x.stands.loose u) (flag y.loose u)
-            (T_false ((low_is unlike node_limit).1 u (omega (arith, nltb→le (low unlike node_limit) node_limit (false_t e)))))),
-      )
+    fresh_then : (z : Surveyors) → Surveyed (surveyor_now A L X y.loose) touched x.surveyors node_limit z
+        → Fresh A L X (record { surveyors = z; stands = y; olds = replicate node_limit false; oldt = replicate node_limit false })
+    fresh_then z R = record {
+      lates = record {
+        stand = λ v w t. stands_fresh v w;
+        surveyor = λ v w t. by_bool (flag touched v)
+            (λ s. surveyed_at (surveyor_now A L X y.loose) touched x.surveyors z R v w true s)
+            (λ s. given (untouched v w s) (λ (a, b). surveyed_at (surveyor_now A L X y.loose) touched x.surveyors z R v w false s ∙ K.surveyor v w a
+            ∙ sym (surveyor_local A.m A.sv L.table_s D.owned_s v w A.st X.rem X.fs X.ft x.stands.loose
+            X.rem X.fs X.ft y.loose (at X.qs v) (at X.qs v)
+            (record { left = λ e l j. refl; from_s = λ e l j. refl; from_t = λ e l j. refl })
+            (λ e l j. b (at A.st e) (D.fit_t e l)) refl)));
+      };
+      none_s = λ v w. get_or-replicate node_limit v false false w;
+      none_t = λ v w. get_or-replicate node_limit v false false w;
+    }
 
-  fresh_then : (z : Surveyors) → Surveyed (surveyor_now A L X y.loose) touched x.surveyors node_limit z
-      → Fresh A L X (record { surveyors = z; stands = y; olds = replicate node_limit false; oldt = replicate node_limit false })
-  fresh_then z R = record {
-    lates = record {
-      stand = λ v w t. stands_fresh v w;
-      surveyor = λ v w t. by_bool (flag touched v)
-          (λ s. surveyed_at (surveyor_now A L X y.loose) touched x.surveyors z R v w true s)
-          (λ s. given (untouched v w s) (λ (a, b). surveyed_at (surveyor_now A L X y.loose) touched x.surveyors z R v w false s ∙ K.surveyor v w a
-          ∙ sym (surveyor_local A.m A.sv L.table_s D.owned_s v w A.st X.rem X.fs X.ft x.stands.loose
-          X.rem X.fs X.ft y.loose (at X.qs v) (at X.qs v)
-          (record { left = λ e l j. refl; from_s = λ e l j. refl; from_t = λ e l j. refl })
-          (λ e l j. b (at A.st e) (D.fit_t e l)) refl)));
-    };
-    none_s = λ v w. get_or-replicate node_limit v false false w;
-    none_t = λ v w. get_or-replicate node_limit v false false w;
-  }
-
-  -- the same of an array of flags that is as it was computed
-  pub later_fresh : (due : List Bool) → due ≡ touched → (z : Surveyors) → Surveyed (surveyor_now A L X y.loose) due x.surveyors node_limit z
-      → Fresh A L X (record { surveyors = z; stands = y; olds = replicate node_limit false; oldt = replicate node_limit false })
-  later_fresh due q z R = fresh_then z (subst (λ s. Surveyed (surveyor_now A L X y.loose) s x.surveyors node_limit z) q R)
+    -- the same of an array of flags that is as it was computed
+    pub later_fresh : (due : List Bool) → due ≡ touched → (z : Surveyors) → Surveyed (surveyor_now A L X y.loose) due x.surveyors node_limit z
+        → Fresh A L X (record { surveyors = z; stands = y; olds = replicate node_limit false; oldt = replicate node_limit false })
+    later_fresh due q z R = fresh_then z (subst (λ s. Surveyed (surveyor_now A L X y.loose) s x.surveyors node_limit z) q R)

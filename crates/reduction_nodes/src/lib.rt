@@ -1,6 +1,8 @@
 // By node, the lowest edge that each rule names there, m if it names none: rules 1, 4, 5, 6 and one half of rule 2 by surveyor, rules 3, 7 and the
 // other half by stand; and which stands are loose. Each is read from the node's own edges; after a step only the nodes that due a change are read
 // anew. Rules 1 and 2 are asked at every step, the later ones only where both are silent, so each group has its own functions.
+// That a rule names no edge is the number m, no None: a step takes the least of a row of numbers, which m never is where there is an edge. And a function
+// here takes the arrays of a node's side one by one, since which of the two sides' arrays it reads is what its two calls differ in.
 #![tactic(auto)]
 
 ghost use Rattle.std.specs.Prelude.{◌≡◌, ◌&&◌, ◌||◌, cond, List, ℕ, ◌≤◌, ◌<◌, length, leb, ltb};
@@ -11,7 +13,7 @@ ghost use Rattle.arrays.specs.Passes.{Low};
 ghost use Rattle.reduction_lists.specs.Listed.{Listed, Shelved};
 ghost use Rattle.reduction_lists.specs.Walks.{at_node};
 ghost use Rattle.reduction_cells.specs.Cells.{Spread, best_of, worst_of};
-ghost use Rattle.reduction_cells.specs.Painted.{differ, among};
+ghost use Rattle.reduction_cells.specs.Painted.{among};
 ghost use Rattle.reduction_nodes.specs.Renewed.{RenewedBy};
 ghost use Rattle.reduction_nodes.specs.Numbers.{Readable, first_of, second_of, seconds_of, surveyor_of, stand_of, surveyors_of, stands_of};
 ghost use Rattle.reduction_nodes.specs.Numbers.{Rows, Surveyed, Stood, surveyor_numbers, stand_numbers};
@@ -32,6 +34,29 @@ pub struct Stand {
     pub rule3: u16,
     pub rule7: u16,
     pub loose: bool,
+}
+
+// The tables of both sides: their cells and lists.
+#[derive(Drop)]
+pub struct EdgeTables {
+    pub surveyors: [u16; TABLE],
+    pub stands: [u16; TABLE],
+}
+
+// The nodes whose later numbers are old, and due to be read anew.
+#[derive(Drop)]
+pub struct DueNodes {
+    pub surveyors: [bool; 32],
+    pub stands: [bool; 32],
+}
+
+// The numbers of the later rules by node: of surveyors rules 4, 5 and 6, a row each, of stands rules 3 and 7, and which stands are loose.
+#[derive(Drop)]
+pub struct LateNumbers {
+    pub surveyors: [[u16; 32]; 3],
+    pub stands: [[u16; 32]; 2],
+    pub loose: [bool; 32],
+    pub due: DueNodes,
 }
 
 // Rule 2 at one end: at least as many better arrows come in as the quota.
@@ -166,7 +191,8 @@ pub fn stand_now(
     }
 }
 
-// Rule 1 at the surveyors of a list, its first n, anew.
+// Rule 1 at the surveyors of a list, its first n, anew. The list is an array with its number, since memory is fixed; and this and the next stay two
+// loops of two lines, for one with a closure would be longer than both.
 pub fn first_renewed(
     m: usize,
     table: &[u16; TABLE],
@@ -230,16 +256,14 @@ pub fn surveyors_renewed(
         (surveyor_numbers late.old) node_limit
         (surveyor_numbers late.new) }
 {
-    let mut i: usize = 0;
-    while i < 32 {
-        let v = i;
-        i += 1;
-        if due[v] {
-            let s = surveyor_now(m, st, table, rem, fs, ft, lo, q[v], v);
-            late[0][v] = s.rule4;
-            late[1][v] = s.rule5;
-            late[2][v] = s.rule6;
+    for v in 0..32 {
+        if !due[v] {
+            continue;
         }
+        let s = surveyor_now(m, st, table, rem, fs, ft, lo, q[v], v);
+        late[0][v] = s.rule4;
+        late[1][v] = s.rule5;
+        late[2][v] = s.rule6;
     }
 }
 
@@ -262,29 +286,13 @@ pub fn stands_renewed(
         ft.now q.now) due.now (stand_numbers late.old loose.old) node_limit
         (stand_numbers late.new loose.new) }
 {
-    let mut i: usize = 0;
-    while i < 32 {
-        let v = i;
-        i += 1;
-        if due[v] {
-            let s = stand_now(m, table, rem, fs, ft, q[v], v);
-            late[0][v] = s.rule3;
-            late[1][v] = s.rule7;
-            loose[v] = s.loose;
+    for v in 0..32 {
+        if !due[v] {
+            continue;
         }
+        let s = stand_now(m, table, rem, fs, ft, q[v], v);
+        late[0][v] = s.rule3;
+        late[1][v] = s.rule7;
+        loose[v] = s.loose;
     }
-}
-
-// The first node at which two arrays differ, 32 if there is none.
-pub fn unlike(a: &[bool; 32], b: &[bool; 32]) -> usize
-    ensures { result ≡ low (λ v. differ (flag a.now v) (flag b.now v)) node_limit }
-{
-    let mut i: usize = 0;
-    while i < 32 {
-        if a[i] != b[i] {
-            return i;
-        }
-        i += 1;
-    }
-    i
 }

@@ -18,7 +18,7 @@ use Rattle.reduction_nodes.specs.Kept.{NodeLists, Filled, edges, cells_s, cells_
 use Rattle.reduction_state.specs.declared.State as arrays
 use Rattle.reduction_state.specs.Trace.{blank}
 use Rattle.reduction_state.specs.RunState as state
-use Rattle.reduction_state.specs.RunState.{whole, Sized, Started, state_at}
+use Rattle.reduction_state.specs.RunState.{Sized, Started, state_at}
 use Rattle.reduction_state.specs.RunArrows.{Shown}
 use Rattle.reduction_start.specs.declared.Start.{Start}
 
@@ -49,15 +49,12 @@ rows_three lead {x} {y} {z} R R₁ R₂ R₃ = (
 )
 
 -- ---- the beginning
-abbrev pub state_of : Start → arrays.State
-state_of b = whole b.rem b.fixed b.qs b.qt b.ds b.dt
-
 pub record Begun (m : ℕ) (sv st : List ℕ) (L : NodeLists) (quota_s quota_t : List ℕ) (b : Start) : Type 0 where
   pub shown : (rs rt : List ℕ) (K : Known (edges m sv st rs rt) quota_s quota_t) → Filled (edges m sv st rs rt) K.tied L → Shown (instance_of K)
-      (state_of b) b.fs b.ft blank
-  pub sized : Sized (state_of b)
-  pub size_s : length b.fs ≡ entry_limit
-  pub size_t : length b.ft ≡ entry_limit
+      b.state b.arrows.surveyors b.arrows.stands blank
+  pub sized : Sized b.state
+  pub size_s : length b.arrows.surveyors ≡ entry_limit
+  pub size_t : length b.arrows.stands ≡ entry_limit
 
 pub shown_first : {A : Edges} {L : NodeLists} {quota_s quota_t : List ℕ} (K : Known A quota_s quota_t) → Filled A K.tied L →
     (x : arrays.State) → Started A.m A.sv A.st quota_s quota_t x → (fs ft : List Bool) → AllPainted A.m L.table_s x.rem x.qs node_limit fs

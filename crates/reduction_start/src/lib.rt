@@ -7,55 +7,36 @@ ghost use Rattle.arrays.specs.Passes.{Low};
 ghost use Rattle.arrays.specs.Filled.{Made};
 ghost use Rattle.reduction_cells.specs.Cells.{Spread};
 ghost use Rattle.reduction_nodes.specs.Numbers.{Readable, row, Rows};
-ghost use Rattle.reduction_nodes.specs.Kept.{Tables, Leads, edges, node_lists, looks};
+ghost use Rattle.reduction_nodes.specs.Kept.{Tables, Leads, edges, tables_of};
+ghost use Rattle.reduction_state.specs.Lent.{looks_of};
 ghost use Rattle.reduction_start.specs.Beginning.{Begun};
 
-use limits::{EMPTY_RANK, ENTRY_LIMIT};
-use reduction_cells::TABLE;
+use instance::Instance;
+use limits::EMPTY_RANK;
+use reduction_nodes::EdgeTables;
+use reduction_state::{Arrows, State};
 
 // The beginning: the state, and its arrows.
 #[derive(Drop)]
 pub struct Start {
-    pub rem: [bool; ENTRY_LIMIT],
-    pub fixed: [bool; ENTRY_LIMIT],
-    pub qs: [u16; 32],
-    pub qt: [u16; 32],
-    pub ds: [u16; 32],
-    pub dt: [u16; 32],
-    pub fs: [bool; ENTRY_LIMIT],
-    pub ft: [bool; ENTRY_LIMIT],
+    pub state: State,
+    pub arrows: Arrows,
 }
 
-pub fn begun(
-    m: usize,
-    sv: &[u8; ENTRY_LIMIT],
-    st: &[u8; ENTRY_LIMIT],
-    tabs: &[u16; TABLE],
-    tabt: &[u16; TABLE],
-    qs: &[u8; 32],
-    qt: &[u8; 32],
-) -> Start
-    requires { Low m sv.now node_limit × Low m st.now node_limit × Spread m tabs.now × Spread m tabt.now }
-    ensures { Begun m sv.now st.now (node_lists tabs.now tabt.now) qs.now qt.now result }
+pub fn begun(g: &Instance, tables: &EdgeTables) -> Start
+    requires { Low g.now.m g.now.sv node_limit × Low g.now.m g.now.st node_limit
+        × Spread g.now.m tables.now.surveyors × Spread g.now.m tables.now.stands }
+    ensures { Begun g.now.m g.now.sv g.now.st (tables_of tables.now) g.now.quota_s g.now.quota_t result }
 {
-    let a = reduction_state::start(m, sv, st, qs, qt);
-    let rem = a.rem;
-    let fixed = a.fixed;
-    let cuts = a.qs;
-    let cutt = a.qt;
-    let ds = a.ds;
-    let dt = a.dt;
-    let fs = reduction_cells::painted(m, tabs, &cuts, st, &rem);
-    let ft = reduction_cells::painted(m, tabt, &cutt, sv, &rem);
+    let state = reduction_state::start(g);
+    let s = reduction_cells::painted(g.m, &tables.surveyors, &state.qs, &g.st, &state.rem);
+    let t = reduction_cells::painted(g.m, &tables.stands, &state.qt, &g.sv, &state.rem);
     Start {
-        rem: rem,
-        fixed: fixed,
-        qs: cuts,
-        qt: cutt,
-        ds: ds,
-        dt: dt,
-        fs: fs,
-        ft: ft,
+        state,
+        arrows: Arrows {
+            surveyors: s,
+            stands: t,
+        },
     }
 }
 
@@ -72,27 +53,50 @@ pub(crate) fn everyone() -> [u8; EMPTY_RANK]
 
 // The numbers of rules 1 and 2 at all nodes.
 pub fn numbered(
-    m: usize,
-    rs: &[u8; ENTRY_LIMIT],
-    rt: &[u8; ENTRY_LIMIT],
-    tabs: &[u16; TABLE],
-    tabt: &[u16; TABLE],
-    rem: &[bool; ENTRY_LIMIT],
-    fs: &[bool; ENTRY_LIMIT],
-    ft: &[bool; ENTRY_LIMIT],
-    qs: &[u16; 32],
-    qt: &[u16; 32],
+    g: &Instance,
+    tables: &EdgeTables,
+    state: &State,
+    arrows: &Arrows,
     lead: &mut [[u16; 32]; 3],
 )
-    requires { Low m rs.now empty_rank × Low m rt.now empty_rank × Readable m tabs.now × Readable m tabt.now × Rows 3 lead.old }
+    requires { Low g.now.m g.now.rank_s empty_rank × Low g.now.m g.now.rank_t empty_rank
+        × Readable g.now.m tables.now.surveyors × Readable g.now.m tables.now.stands × Rows 3 lead.old }
     ensures rows { Rows 3 lead.new }
-    ensures by_index { (sv st : List ℕ) → Tables (edges m sv st rs.now rt.now) (node_lists tabs.now tabt.now)
-        → Leads (edges m sv st rs.now rt.now) (node_lists tabs.now tabt.now)
-        (looks rem.now fs.now ft.now qs.now qt.now)
+    ensures by_index { (sv st : List ℕ) → Tables (edges g.now.m sv st g.now.rank_s g.now.rank_t) (tables_of tables.now)
+        → Leads (edges g.now.m sv st g.now.rank_s g.now.rank_t) (tables_of tables.now)
+        (looks_of state.now arrows.now)
         (row lead.new 0) (row lead.new 1) (row lead.new 2) }
 {
     let all = everyone();
-    reduction_nodes::first_renewed(m, tabs, fs, ft, &all, 32, &mut lead[0]);
-    reduction_nodes::second_renewed(m, rs, tabs, rem, ft, qs, &all, 32, &mut lead[1]);
-    reduction_nodes::second_renewed(m, rt, tabt, rem, fs, qt, &all, 32, &mut lead[2]);
+    reduction_nodes::first_renewed(
+        g.m,
+        &tables.surveyors,
+        &arrows.surveyors,
+        &arrows.stands,
+        &all,
+        32,
+        &mut lead[0],
+    );
+    reduction_nodes::second_renewed(
+        g.m,
+        &g.rank_s,
+        &tables.surveyors,
+        &state.rem,
+        &arrows.stands,
+        &state.qs,
+        &all,
+        32,
+        &mut lead[1],
+    );
+    reduction_nodes::second_renewed(
+        g.m,
+        &g.rank_t,
+        &tables.stands,
+        &state.rem,
+        &arrows.surveyors,
+        &state.qt,
+        &all,
+        32,
+        &mut lead[2],
+    );
 }

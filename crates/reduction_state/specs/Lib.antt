@@ -3,3 +3,4 @@ pub mod Trace
 pub mod Outcome
 pub mod RunState
 pub mod RunArrows
+pub mod Lent

@@ -1,5 +1,5 @@
 // The state of a run of the reduction: what remains, what is fixed, and by node the cut quotas and the numbers of remaining edges, which a step
-// renews at the two ends of its edge; and the trace of a run, an edge and a rule for each step. The arrays are lent to a step.
+// renews at the two ends of its edge; and the trace of a run, an edge and a rule for each step. The state is lent to a step, which changes it in place.
 #![tactic(auto)]
 
 ghost use Rattle.std.specs.Prelude.{◌≡◌, ℕ, ◌-◌, ◌≤◌, ◌<◌, min, ltb};
@@ -11,8 +11,9 @@ ghost use Rattle.arrays.specs.Passes.{Low};
 ghost use Rattle.arrays.specs.Tally.{Tally};
 ghost use Rattle.arrays.specs.Filled.{Made};
 ghost use Rattle.model.specs.Limits.{node_limit, entry_limit};
-ghost use Rattle.reduction_state.specs.RunState.{acted, told, whole, Started};
+ghost use Rattle.reduction_state.specs.RunState.{acted, told, Started};
 
+use instance::Instance;
 use limits::ENTRY_LIMIT;
 
 // The arrays of a state: remaining and fixed edges; by node, the cut quotas and the numbers of remaining edges.
@@ -24,6 +25,13 @@ pub struct State {
     pub qt: [u16; 32],
     pub ds: [u16; 32],
     pub dt: [u16; 32],
+}
+
+// The arrows of a state: the edges that have one from their surveyor, and those that have one from their stand.
+#[derive(Drop)]
+pub struct Arrows {
+    pub surveyors: [bool; ENTRY_LIMIT],
+    pub stands: [bool; ENTRY_LIMIT],
 }
 
 // The trace of a run: the edges and the rules of its steps, in front of the arrays.
@@ -46,42 +54,18 @@ pub fn all(m: usize) -> [bool; ENTRY_LIMIT]
     o
 }
 
-// Whether a rule fixes the edge that it names.
+// Whether a rule fixes the edge that it names. As `matches!` it would be four goals, one for each number, in place of one equation.
 pub fn fixes(rule: u8) -> bool
     ensures { result ≡ reduction.fixes (numbers.fate_of rule) }
 {
     (rule == 1) | (rule == 3) | (rule == 6) | (rule == 7)
 }
 
-// One edge less.
-pub fn fewer(d: u16) -> u16
-    ensures { result ≡ d - 1 }
-{
-    if d == 0 {
-        return 0;
-    }
-    d - 1
-}
-
-// A quota, lowered by one if an edge is fixed.
-pub fn less(q: u16, fix: bool) -> u16
-    ensures { result ≡ q - bool_byte fix }
-{
-    if q == 0 {
-        return 0;
-    }
-    q - fix as u16
-}
-
-// The same, cut to the number of remaining edges.
+// A quota, lowered by one if an edge is fixed, and cut to the number of remaining edges.
 pub fn lowered(q: u16, fix: bool, d: u16) -> u16
     ensures { result ≡ min (q - bool_byte fix) d }
 {
-    let l = less(q, fix);
-    if l < d {
-        return l;
-    }
-    d
+    q.saturating_sub(fix as u16).min(d)
 }
 
 // What a step tells of itself: its edge, and whether the quota fell at its surveyor and at its stand.
@@ -93,41 +77,28 @@ pub struct Acted {
 }
 
 // The state after a step.
-pub fn act(
-    sv: &[u8; ENTRY_LIMIT],
-    st: &[u8; ENTRY_LIMIT],
-    rem: &mut [bool; ENTRY_LIMIT],
-    fixed: &mut [bool; ENTRY_LIMIT],
-    qs: &mut [u16; 32],
-    qt: &mut [u16; 32],
-    ds: &mut [u16; 32],
-    dt: &mut [u16; 32],
-    rule: u8,
-    e: usize,
-) -> Acted
-    requires { (e < entry_limit) × (at sv.now e < node_limit) × (at st.now e < node_limit) }
-    ensures dt_after { whole rem.new fixed.new qs.new qt.new ds.new dt.new
-        ≡ acted sv.now st.now
-        (whole rem.old fixed.old qs.old qt.old ds.old dt.old) rule e }
-    ensures value { result ≡ told sv.now st.now qs.old qt.old qs.new qt.new e }
+pub fn act(g: &Instance, state: &mut State, rule: u8, e: usize) -> Acted
+    requires { (e < entry_limit) × (at g.now.sv e < node_limit) × (at g.now.st e < node_limit) }
+    ensures state_after { state.new ≡ acted g.now.sv g.now.st state.old rule e }
+    ensures value { result ≡ told g.now.sv g.now.st state.old.qs state.old.qt state.new.qs state.new.qt e }
 {
-    let s = sv[e] as usize;
-    let t = st[e] as usize;
-    let quotas = qs[s];
-    let quotat = qt[t];
+    let s = g.sv[e] as usize;
+    let t = g.st[e] as usize;
+    let quotas = state.qs[s];
+    let quotat = state.qt[t];
     let fix = fixes(rule);
-    rem[e] = false;
-    fixed[e] = fixed[e] | fix;
-    let left = fewer(ds[s]);
-    ds[s] = left;
-    qs[s] = lowered(quotas, fix, left);
-    let more = fewer(dt[t]);
-    dt[t] = more;
-    qt[t] = lowered(quotat, fix, more);
+    state.rem[e] = false;
+    state.fixed[e] = state.fixed[e] | fix;
+    let left = state.ds[s].saturating_sub(1);
+    state.ds[s] = left;
+    state.qs[s] = lowered(quotas, fix, left);
+    let more = state.dt[t].saturating_sub(1);
+    state.dt[t] = more;
+    state.qt[t] = lowered(quotat, fix, more);
     Acted {
         edge: e,
-        fells: quotas != qs[s],
-        fellt: quotat != qt[t],
+        fells: quotas != state.qs[s],
+        fellt: quotat != state.qt[t],
     }
 }
 
@@ -144,50 +115,33 @@ pub(crate) fn tally(m: usize, end: &[u8; ENTRY_LIMIT], p: &[bool; ENTRY_LIMIT]) 
     t
 }
 
-// A quota, cut to the number of remaining edges.
-pub(crate) fn cut(quota: u8, d: u16) -> u16
-    ensures { result ≡ min quota d }
-{
-    let q = quota as u16;
-    if q < d {
-        return q;
-    }
-    d
-}
-
 // The quotas of one side, cut to the numbers of remaining edges.
 pub(crate) fn cuts(quota: &[u8; 32], d: &[u16; 32]) -> [u16; 32]
     ensures { Made 0 result (λ v. min (at quota.now v) (at d.now v)) 32 }
 {
     let mut o = [0u16; 32];
     for i in 0..32 {
-        o[i] = cut(quota[i], d[i]);
+        o[i] = (quota[i] as u16).min(d[i]);
     }
     o
 }
 
 // The state at the beginning.
-pub fn start(
-    m: usize,
-    sv: &[u8; ENTRY_LIMIT],
-    st: &[u8; ENTRY_LIMIT],
-    qs: &[u8; 32],
-    qt: &[u8; 32],
-) -> State
-    requires { (m ≤ entry_limit) × Low m sv.now node_limit × Low m st.now node_limit }
-    ensures { Started m sv.now st.now qs.now qt.now result }
+pub fn start(g: &Instance) -> State
+    requires { (g.now.m ≤ entry_limit) × Low g.now.m g.now.sv node_limit × Low g.now.m g.now.st node_limit }
+    ensures { Started g.now.m g.now.sv g.now.st g.now.quota_s g.now.quota_t result }
 {
-    let rem = all(m);
-    let ds = tally(m, sv, &rem);
-    let dt = tally(m, st, &rem);
-    let cut_s = cuts(qs, &ds);
-    let cut_t = cuts(qt, &dt);
+    let rem = all(g.m);
+    let ds = tally(g.m, &g.sv, &rem);
+    let dt = tally(g.m, &g.st, &rem);
+    let qs = cuts(&g.quota_s, &ds);
+    let qt = cuts(&g.quota_t, &dt);
     State {
-        rem: rem,
+        rem,
         fixed: [false; ENTRY_LIMIT],
-        qs: cut_s,
-        qt: cut_t,
-        ds: ds,
-        dt: dt,
+        qs,
+        qt,
+        ds,
+        dt,
     }
 }

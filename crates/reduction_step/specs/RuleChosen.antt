@@ -1,7 +1,7 @@
 -- Which rule acts, and what a step promises. The code asks the rules one after the other: as long as none has named an edge, it is silent up to here.
 use Prim.Native.Nat.{ℕ, ◌+◌, ◌≤◌, ◌<◌, min}
 use Rattle.std.proofs.Common.{arith, ◌∙◌, subst}
-use Rattle.std.specs.Prelude.{◌≡◌, refl, Bool, true, false, ◌&&◌, ◌||◌, List, ltb}
+use Rattle.std.specs.Prelude.{◌≡◌, refl, Bool, true, false, ◌&&◌, ◌||◌, List, Option, None, Some, ltb}
 use Rattle.std.proofs.Math.Path.{sym, ap, ap₂}
 use Rattle.std.proofs.Math.Bool.{and-false}
 use borrow.Author.Tests.{lt-ltb, le-ltb}
@@ -17,7 +17,17 @@ use Rattle.reduction_nodes.specs.Known.{Edges, Known, instance_of, state_of}
 use Rattle.reduction_nodes.specs.Kept.{NodeLists, Tables, Filled, Looks, Later, Leads, Lates, Fresh, edges, later, cells_s, cells_t}
 use Rattle.reduction_nodes.specs.Numbers.{row}
 use Rattle.reduction_nodes.specs.NodeLaws.{Seen, Named, Loose, stand2, stand3, stand7, stand_loose, surveyor1, surveyor2, surveyor4, surveyor5, surveyor6}
+use Rattle.reduction_step.specs.declared.Named as step
 use Rattle.reduction_step.specs.Least.{Least, least_lowest, low_either}
+
+-- what the answer of a step says: the number of the rule, 8 where none acts, and the edge, which is m then
+abbrev pub rule_told : Option step.Named → ℕ
+rule_told (Some a) = a.rule
+rule_told None = 8
+
+abbrev pub edge_told : (m : ℕ) → Option step.Named → ℕ
+edge_told m (Some a) = a.edge
+edge_told m None = m
 
 module _ (G : Instance) (Z : State) where
   -- the rule and its edge are the model's

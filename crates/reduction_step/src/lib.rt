@@ -2,31 +2,25 @@
 // rules are made anew, where they are old, only if rules 1 and 2 are silent.
 #![tactic(auto)]
 
-ghost use Rattle.std.specs.Prelude.{◌≡◌, cond, true, min, replicate};
+ghost use Rattle.std.specs.Prelude.{◌≡◌, ◌<◌, cond, true, replicate};
+ghost use Rattle.std.specs.Option.{IfSome};
 ghost use Rattle.model.specs.Limits.{node_limit};
 ghost use Rattle.arrays.specs.Passes.{Low};
 ghost use Rattle.reduction_nodes.specs.Numbers.{Readable};
-ghost use Rattle.reduction_nodes.specs.Kept.{SizedL, node_lists, looks, later};
+ghost use Rattle.reduction_nodes.specs.Kept.{SizedLate, tables_of, later_of};
+ghost use Rattle.reduction_state.specs.Lent.{looks_of};
 ghost use Rattle.reduction_step.specs.Least.{Least};
-ghost use Rattle.reduction_step.specs.RuleChosen.{Later37, Renews, Stepped};
+ghost use Rattle.reduction_step.specs.RuleChosen.{Later37, Renews, Stepped, rule_told, edge_told};
 
-use limits::ENTRY_LIMIT;
-use reduction_cells::TABLE;
+use instance::Instance;
+use reduction_nodes::{DueNodes, EdgeTables, LateNumbers};
+use reduction_state::{Arrows, State};
 
-// A rule and an edge, 8 and m if no rule names one.
+// A rule and the edge that it names. The rule is its number, from 1 to 7: the trace and the diary hold it as that byte.
 #[derive(Drop)]
 pub struct Named {
     pub rule: u8,
     pub edge: usize,
-}
-
-pub fn lesser(a: u16, b: u16) -> u16
-    ensures { result ≡ min a b }
-{
-    if b < a {
-        return b;
-    }
-    a
 }
 
 // The least number of a side.
@@ -35,7 +29,7 @@ pub fn least(xs: &[u16; 32]) -> u16
 {
     let mut l = xs[0];
     for i in 1..32 {
-        l = lesser(l, xs[i]);
+        l = l.min(xs[i]);
     }
     l
 }
@@ -52,105 +46,105 @@ pub fn touched(turned: bool, old: [bool; 32]) -> [bool; 32]
 
 // The later numbers, those that are old made anew.
 pub fn renewed(
-    m: usize,
-    st: &[u8; ENTRY_LIMIT],
-    tabs: &[u16; TABLE],
-    tabt: &[u16; TABLE],
-    rem: &[bool; ENTRY_LIMIT],
-    fs: &[bool; ENTRY_LIMIT],
-    ft: &[bool; ENTRY_LIMIT],
-    qs: &[u16; 32],
-    qt: &[u16; 32],
-    lates: &mut [[u16; 32]; 3],
-    latet: &mut [[u16; 32]; 2],
-    loose: &mut [bool; 32],
-    olds: &mut [bool; 32],
-    oldt: &mut [bool; 32],
+    g: &Instance,
+    tables: &EdgeTables,
+    state: &State,
+    arrows: &Arrows,
+    later: &mut LateNumbers,
 )
-    requires low { Low m st.now node_limit × Readable m tabs.now × Readable m tabt.now }
-    requires sized_l { SizedL lates.old latet.old loose.old olds.old oldt.old }
-    ensures sized_l_2 { SizedL lates.new latet.new loose.new olds.new oldt.new }
-    ensures renews { Renews m st.now (node_lists tabs.now tabt.now)
-        (looks rem.now fs.now ft.now qs.now qt.now)
-        (later lates.old latet.old loose.old olds.old oldt.old)
-        (later lates.new latet.new loose.new olds.new oldt.new) }
+    requires low { Low g.now.m g.now.st node_limit × Readable g.now.m tables.now.surveyors × Readable g.now.m tables.now.stands }
+    requires sized_l { SizedLate later.old }
+    ensures sized_l_2 { SizedLate later.new }
+    ensures renews { Renews g.now.m g.now.st (tables_of tables.now) (looks_of state.now arrows.now)
+        (later_of later.old) (later_of later.new) }
 {
-    let before = *loose;
-    reduction_nodes::stands_renewed(m, tabt, rem, fs, ft, qt, oldt, latet, loose);
-    let at = reduction_nodes::unlike(&before, loose);
-    let known = *olds;
-    let due = touched(at < 32, known);
-    reduction_nodes::surveyors_renewed(m, st, tabs, rem, fs, ft, loose, qs, &due, lates);
-    *olds = [false; 32];
-    *oldt = [false; 32];
+    let before = later.loose;
+    reduction_nodes::stands_renewed(
+        g.m,
+        &tables.stands,
+        &state.rem,
+        &arrows.surveyors,
+        &arrows.stands,
+        &state.qt,
+        &later.due.stands,
+        &mut later.stands,
+        &mut later.loose,
+    );
+    let known = later.due.surveyors;
+    let due = touched(before != later.loose, known);
+    reduction_nodes::surveyors_renewed(
+        g.m,
+        &g.st,
+        &tables.surveyors,
+        &state.rem,
+        &arrows.surveyors,
+        &arrows.stands,
+        &later.loose,
+        &state.qs,
+        &due,
+        &mut later.surveyors,
+    );
+    later.due = DueNodes {
+        surveyors: [false; 32],
+        stands: [false; 32],
+    };
 }
 
-// Rules 3 to 7, where the rules before are silent.
-pub fn late(m: usize, lates: &[[u16; 32]; 3], latet: &[[u16; 32]; 2]) -> Named
-    ensures { Later37 m lates.now latet.now result.rule result.edge }
+// Rules 3 to 7, where the rules before are silent; none if these are silent too.
+pub fn late(m: usize, later: &LateNumbers) -> Option<Named>
+    ensures inside { IfSome result (λ a. a.edge < m) }
+    ensures named { Later37 m later.now.surveyors later.now.stands (rule_told result) (edge_told m result) }
 {
-    let e3 = least(&latet[0]) as usize;
+    let e3 = least(&later.stands[0]) as usize;
     if e3 < m {
-        return Named { rule: 3, edge: e3 };
+        return Some(Named { rule: 3, edge: e3 });
     }
-    let e4 = least(&lates[0]) as usize;
+    let e4 = least(&later.surveyors[0]) as usize;
     if e4 < m {
-        return Named { rule: 4, edge: e4 };
+        return Some(Named { rule: 4, edge: e4 });
     }
-    let e5 = least(&lates[1]) as usize;
+    let e5 = least(&later.surveyors[1]) as usize;
     if e5 < m {
-        return Named { rule: 5, edge: e5 };
+        return Some(Named { rule: 5, edge: e5 });
     }
-    let e6 = least(&lates[2]) as usize;
+    let e6 = least(&later.surveyors[2]) as usize;
     if e6 < m {
-        return Named { rule: 6, edge: e6 };
+        return Some(Named { rule: 6, edge: e6 });
     }
-    let e7 = least(&latet[1]) as usize;
+    let e7 = least(&later.stands[1]) as usize;
     if e7 < m {
-        return Named { rule: 7, edge: e7 };
+        return Some(Named { rule: 7, edge: e7 });
     }
-    Named { rule: 8, edge: m }
+    None
 }
 
-// The first rule that names an edge, and the lowest edge that it names; 8 and m if none does. The rows of `lead` are the
+// The first rule that names an edge, and the lowest edge that it names; none if no rule names one. The rows of `lead` are the
 // numbers of rule 1, and of rule 2 by surveyor and by stand.
 pub fn step(
-    m: usize,
-    st: &[u8; ENTRY_LIMIT],
-    tabs: &[u16; TABLE],
-    tabt: &[u16; TABLE],
-    rem: &[bool; ENTRY_LIMIT],
-    fs: &[bool; ENTRY_LIMIT],
-    ft: &[bool; ENTRY_LIMIT],
-    qs: &[u16; 32],
-    qt: &[u16; 32],
+    g: &Instance,
+    tables: &EdgeTables,
+    state: &State,
+    arrows: &Arrows,
     lead: &[[u16; 32]; 3],
-    lates: &mut [[u16; 32]; 3],
-    latet: &mut [[u16; 32]; 2],
-    loose: &mut [bool; 32],
-    olds: &mut [bool; 32],
-    oldt: &mut [bool; 32],
-) -> Named
-    requires low { Low m st.now node_limit × Readable m tabs.now × Readable m tabt.now }
-    requires sized_l { SizedL lates.old latet.old loose.old olds.old oldt.old }
-    ensures sized_l_2 { SizedL lates.new latet.new loose.new olds.new oldt.new }
-    ensures stepped { Stepped m st.now (node_lists tabs.now tabt.now)
-        (looks rem.now fs.now ft.now qs.now qt.now)
-        lead.now
-        (later lates.old latet.old loose.old olds.old oldt.old)
-        (later lates.new latet.new loose.new olds.new oldt.new)
-        result.rule result.edge }
+    later: &mut LateNumbers,
+) -> Option<Named>
+    requires low { Low g.now.m g.now.st node_limit × Readable g.now.m tables.now.surveyors × Readable g.now.m tables.now.stands }
+    requires sized_l { SizedLate later.old }
+    ensures sized_l_2 { SizedLate later.new }
+    ensures inside { IfSome result (λ a. a.edge < g.now.m) }
+    ensures stepped { Stepped g.now.m g.now.st (tables_of tables.now) (looks_of state.now arrows.now)
+        lead.now (later_of later.old) (later_of later.new)
+        (rule_told result) (edge_told g.now.m result) }
 {
+    let m = g.m;
     let e1 = least(&lead[0]) as usize;
     if e1 < m {
-        return Named { rule: 1, edge: e1 };
+        return Some(Named { rule: 1, edge: e1 });
     }
-    let e2 = lesser(least(&lead[1]), least(&lead[2])) as usize;
+    let e2 = least(&lead[1]).min(least(&lead[2])) as usize;
     if e2 < m {
-        return Named { rule: 2, edge: e2 };
+        return Some(Named { rule: 2, edge: e2 });
     }
-    renewed(
-        m, st, tabs, tabt, rem, fs, ft, qs, qt, lates, latet, loose, olds, oldt,
-    );
-    late(m, lates, latet)
+    renewed(g, tables, state, arrows, later);
+    late(m, later)
 }

@@ -16,35 +16,23 @@ side_thresholds-lt-requires c =
     let a = c.args in
     places a.g.m a.p.now a.n a.es.now a.g.st L.edges L.low_st l few
 
-pub top_wanted-e-requires : goal.top_wanted-e-requires
-top_wanted-e-requires c =
+pub top_wanted-requires : goal.top_wanted-requires
+top_wanted-requires c =
     let m = may_search c.args.g c.requires.0 in
     (m.0, m.1, m.2)
 
-pub bounds-sv-e : goal.bounds-sv-e
-bounds-sv-e c = omega (arith, c.requires.0.edges)
-
-pub bounds-st-e : goal.bounds-st-e
-bounds-st-e c = omega (arith, c.requires.0.edges)
-
-pub bounds-sh-e : goal.bounds-sh-e
-bounds-sh-e c = omega (arith, c.requires.0.edges)
-
 pub overflow_add-result : goal.overflow_add-result
-overflow_add-result c = omega (arith, c.requires.0.low_sv c.top_wanted-e.result)
+overflow_add-result c = omega (arith, c.requires.0.low_sv c.in-Some.e)
 
-pub overflow_add-result-then-e-m : goal.overflow_add-result-then-e-m
-overflow_add-result-then-e-m c = omega (arith, c.requires.0.low_st c.top_wanted-e.result)
-
-pub returns-then-e-m : goal.returns-then-e-m
-returns-then-e-m c =
+pub returns-in-Some : goal.returns-in-Some
+returns-in-Some c =
     let g = c.args.g in
     let l = c.side_thresholds-ls in
     let k = c.side_thresholds-lt in
     let m = may_search g c.requires.0 in
     answer_yes g.m g.sv g.st g.rank_s g.rank_t g.quota_s g.quota_t l.result k.result c.args.p.now m.2 m.3
     (l.ensures g.m c.args.p.now m.0 c.requires.2) (k.ensures g.m c.args.p.now m.1 c.requires.2)
-    g.ns g.nt g.sh g.tied c.top_wanted-e.result c.top_wanted-e.ensures c.if-e-m.true
+    g.ns g.nt g.sh g.tied c.in-Some.e c.in-Some.ensures.1 (omega (arith, c.in-Some.ensures))
 
 pub returns : goal.returns
 returns c =
@@ -54,4 +42,4 @@ returns c =
     let m = may_search g c.requires.0 in
     answer_no g.m g.sv g.st g.rank_s g.rank_t g.quota_s g.quota_t l.result k.result c.args.p.now m.2 m.3
     (l.ensures g.m c.args.p.now m.0 c.requires.2) (k.ensures g.m c.args.p.now m.1 c.requires.2)
-    g.ns g.nt g.sh g.tied (rw (← c.top_wanted-e.ensures) c.if-e-m.false)
+    g.ns g.nt g.sh g.tied (omega (arith, c.in_default.ensures))

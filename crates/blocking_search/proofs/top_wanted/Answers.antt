@@ -2,7 +2,7 @@
 -- Assumes nothing.
 use Rattle.std.proofs.Common.{zero-le, arith, ◌≡◌, subst}
 use Rattle.arrays.specs.ArrayInstance.{at}
-use Rattle.blocking_search.specs.Wanted.{wanted}
+use Rattle.blocking_search.specs.Wanted.{wanted, edge_or, edge_told}
 use Rattle.blocking_search.specs.TopSearch.{Seen, seen_none, key_low, seen_taken, seen_left, seen_all}
 use Rattle.blocking_search.proofs.top_wanted.Goals.{then-p-i, else-p-i}
 use Rattle.blocking_search.proofs.top_wanted.Goals as goal
@@ -17,24 +17,16 @@ pub loop-i-init : goal.loop-i-init
 loop-i-init c =
     let a = c.args in (
       zero-le,
-      seen_none (at a.sv.now) (at a.rs.now) a.m
-          (wanted a.sv.now a.st.now a.rs.now a.rt.now a.ls.now a.lt.now a.p.now),
+      seen_none (at a.g.now.sv) (at a.g.now.rank_s) a.g.now.m
+          (wanted a.g.now.sv a.g.now.st a.g.now.rank_s a.g.now.rank_t a.ls.now a.lt.now a.p.now),
+      tt,
     )
-
-pub bounds-sv-i : goal.bounds-sv-i
-bounds-sv-i c = omega (arith, c.requires.0.edges)
 
 pub overflow_cast-s : goal.overflow_cast-s
 overflow_cast-s c = omega (arith, c.requires.0.ends c.loop-i.i (omega arith))
 
-pub bounds-st-i : goal.bounds-st-i
-bounds-st-i c = omega (arith, c.requires.0.edges)
-
 pub overflow_cast-t : goal.overflow_cast-t
 overflow_cast-t c = omega (arith, c.requires.1.ends c.loop-i.i (omega arith))
-
-pub bounds-rs-i : goal.bounds-rs-i
-bounds-rs-i c = omega (arith, c.requires.0.edges)
 
 pub overflow_cast-r : goal.overflow_cast-r
 overflow_cast-r c = omega (arith, c.requires.2 c.loop-i.i (omega arith))
@@ -55,34 +47,27 @@ overflow_add-k c =
 pub bounds-p-i : goal.bounds-p-i
 bounds-p-i c = omega (arith, c.requires.0.edges)
 
-pub bounds-rs-i-in-loop-i : goal.bounds-rs-i-in-loop-i
-bounds-rs-i-in-loop-i c = omega (arith, c.requires.0.edges)
-
 pub bounds-ls-s : goal.bounds-ls-s
 bounds-ls-s c = c.requires.0.ends c.loop-i.i (omega arith)
-
-pub bounds-rt-i : goal.bounds-rt-i
-bounds-rt-i c =
-    omega (arith, c.requires.0.edges)
 
 pub bounds-lt-t : goal.bounds-lt-t
 bounds-lt-t c = c.requires.1.ends c.loop-i.i (omega arith)
 
 pub loop-i-preserved : goal.loop-i-preserved
 loop-i-preserved c =
-    let a = c.args in
+    let g = c.args.g.now in
     let i = c.loop-i.i in
-    let low = key_low (at a.sv.now) (at a.rs.now) i (c.requires.0.ends i (omega arith)) (c.requires.2 i (omega arith)) in (
-      omega arith,
-      elim c.if-p-i.branch [
-        | then-p-i w ↦ rw w.top-is (rw w.key-is (seen_taken (at a.sv.now) (at a.rs.now) a.m _ c.loop-i.invariant.1 w.if-p-i.true))
-        | else-p-i w ↦ rw w.top-is (rw w.key-is (seen_left (at a.sv.now) (at a.rs.now) a.m _ c.loop-i.invariant.1 low w.if-p-i.false))
-      ],
-    )
+    let low = key_low (at g.sv) (at g.rank_s) i (c.requires.0.ends i (omega arith)) (c.requires.2 i (omega arith)) in
+    elim c.if-p-i.branch [
+      | then-p-i w ↦ (omega arith, rw w.top-is (rw w.key-is (seen_taken (at g.sv) (at g.rank_s) g.m _ c.loop-i.invariant.1 w.if-p-i.true)), rw w.top-is c.loop-i-test.true)
+      | else-p-i w ↦ (omega arith, rw w.top-is (rw w.key-is (seen_left (at g.sv) (at g.rank_s) g.m _ c.loop-i.invariant.1 low w.if-p-i.false)), rw w.top-is c.loop-i.invariant.2)
+    ]
 
 pub returns : goal.returns
 returns c =
     let a = c.args in
-    let e : c.loop-i.i ≡ a.m = omega arith in
-    seen_all (at a.sv.now) (at a.rs.now) a.m _ (subst (λ i. Seen (at a.sv.now) (at a.rs.now) a.m (wanted a.sv.now a.st.now
-    a.rs.now a.rt.now a.ls.now a.lt.now a.p.now) i c.loop-i.top c.loop-i.key) e c.loop-i.invariant.1) c.requires.2
+    let g = a.g.now in
+    let e : c.loop-i.i ≡ g.m = omega arith in
+    edge_told g.m _ c.loop-i.top c.loop-i.invariant.2
+    (seen_all (at g.sv) (at g.rank_s) g.m _ (subst (λ i. Seen (at g.sv) (at g.rank_s) g.m (wanted g.sv g.st g.rank_s g.rank_t a.ls.now a.lt.now a.p.now) i
+    (edge_or g.m c.loop-i.top) c.loop-i.key) e c.loop-i.invariant.1) c.requires.2)

@@ -3,7 +3,7 @@ use Rattle.std.proofs.Common.{ℕ, ◌<◌, zero-le, arith, ◌≡◌, ap, ◌�
 use lib.ListN.{length-replicate}
 use Rattle.arrays.specs.ArrayInstance.{at}
 use Rattle.arrays.specs.Tally.{zeros}
-use Rattle.blocking_thresholds.specs.PlanList.{WorstOf, worst_next}
+use Rattle.blocking_thresholds.specs.PlanList.{WorstOf, worst_next, max_is}
 use Rattle.blocking_thresholds.proofs.worst.Goals.{In-loop-k}
 use Rattle.blocking_thresholds.proofs.worst.Goals as goal
 
@@ -23,7 +23,7 @@ loop-k-preserved c =
     let i = inside (goal.at.loop-k-preserved c).In-loop-k in (
       omega arith,
       simp length-set c.loop-k.invariant.1,
-      worst_next a.end.now a.rank.now a.es.now c.loop-k.w c.loop-k.k (omega (arith, i)) c.loop-k.invariant.2 c.raised.ensures,
+      worst_next a.end.now a.rank.now a.es.now c.loop-k.w c.loop-k.k (omega (arith, i)) c.loop-k.invariant.2 (c.max.ensures ∙ max_is _ _),
     )
 
 pub returns : goal.returns

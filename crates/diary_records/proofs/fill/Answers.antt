@@ -13,7 +13,7 @@ loop-i-preserved c =
     let l = c.loop-i in (
       omega arith,
       rw add-one (ap (λ (d : List Step). set d l.i c.step_at.result) l.invariant.1
-          ∙ ap (λ (s : Step). set (filled l.i a.flat a.diary.now) l.i s) (c.step_at.ensures a.flat c.split-q.ensures)),
+          ∙ ap (λ (s : Step). set (filled l.i a.flat a.diary.now) l.i s) c.step_at.ensures),
     )
 
 pub returns : goal.returns

@@ -6,7 +6,7 @@ use Rattle.instance.proofs.instance_of.Goals as goal
 -- the edges are among the cells found
 pub filled-requires : goal.filled-requires
 filled-requires c =
-    let n = c.edge_count-m.ensures in
+    let n = c.min-m.ensures in
     (omega (arith, n), λ e h. c.listed_cells-found.ensures.below e (omega (arith, n, h)))
 
 pub returns : goal.returns
@@ -33,6 +33,6 @@ returns c =
       strict_is = c.stamp_rankings.ensures.table_after;
       next_is = c.stamp_rankings.ensures.next_after;
       found = c.listed_cells-found.ensures;
-      m_is = c.edge_count-m.ensures;
+      m_is = c.min-m.ensures;
       made = c.filled.ensures;
     })

@@ -13,7 +13,8 @@ overflow_cast-e c =
 pub returns-then-e-m : goal.returns-then-e-m
 returns-then-e-m c =
     let a = c.args in
-    entry_hit a.m a.cell.now a.s a.from c.loop-r.r (omega arith) c.loop-r.invariant.0 (omega arith) c.loop-r.invariant.1
+    let e = entry_hit a.m a.cell.now a.s a.from c.loop-r.r (omega arith) c.loop-r.invariant.0 (omega arith) c.loop-r.invariant.1 in
+    (omega (arith, e, c.if-e-m.true), e)
 
 pub loop-r-preserved : goal.loop-r-preserved
 loop-r-preserved c =
@@ -24,6 +25,6 @@ loop-r-preserved c =
     )
 
 pub returns : goal.returns
-returns c =
+returns c h =
     let a = c.args in
-    entry_none a.m a.cell.now a.s a.from c.loop-r.r (omega arith) c.loop-r.invariant.1
+    absurd (omega (arith, h, entry_none a.m a.cell.now a.s a.from c.loop-r.r (omega arith) c.loop-r.invariant.1))

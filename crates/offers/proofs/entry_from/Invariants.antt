@@ -1,5 +1,4 @@
 use Rattle.std.proofs.Common.{◌≤◌}
-use Rattle.model.specs.Limits.{empty_rank}
 use Rattle.offers.specs.NextEntry.{holds, Missed}
 use Rattle.offers.proofs.entry_from.Given as goal
 

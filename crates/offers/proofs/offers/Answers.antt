@@ -18,19 +18,19 @@ cells-requires c =
       cell_count_in_bounds = (omega (arith, n), λ k l. get_or-replicate cell_count k c.args.g.m 0 (omega (arith, l, n)));
     }
 
-pub run-o-requires : goal.run-o-requires
-run-o-requires c = (c.requires, c.cells.ensures.1)
+pub run-standing-requires : goal.run-standing-requires
+run-standing-requires c = (c.requires, c.cells.ensures.1)
 
 pub kept_edges-requires : goal.kept_edges-requires
 kept_edges-requires c =
     let L = c.requires.loaded in (
       L.edges,
       (λ e l. L.low_st e),
-      (λ t w. given (c.run-o.ensures c.requires) (λ (i, W, q). let h = W.inside t w in omega (arith, L.edges))),
-      λ t w. given (c.run-o.ensures c.requires) (λ (i, W, q). W.stands.stand t w),
+      (λ t w. given (c.run-standing.ensures c.requires) (λ (i, W, q). let h = W.inside t w in omega (arith, L.edges))),
+      λ t w. given (c.run-standing.ensures c.requires) (λ (i, W, q). W.stands.stand t w),
     )
 
 pub returns : goal.returns
 returns c =
-    given (c.run-o.ensures c.requires) (λ (i, W, q).
-    offers_shown_law c.args.g c.requires c.run-o.result i W q c.kept_edges.result c.kept_edges.ensures)
+    given (c.run-standing.ensures c.requires) (λ (i, W, q).
+    offers_shown_law c.args.g c.requires c.run-standing.result i W q c.kept_edges.result c.kept_edges.ensures)

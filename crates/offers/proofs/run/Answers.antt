@@ -1,19 +1,19 @@
 -- The run: where it stands after each offer, and that nobody before the place to look from offers.
-use Rattle.std.proofs.Common.{arith}
+use Rattle.std.proofs.Common.{◌≤◌, refl, arith}
 use Rattle.reduction_cells.specs.Cells.{celled_spread}
-use Rattle.offers.specs.Turned.{standing}
+use Rattle.offers.specs.NextEntry.{offer_of}
 use Rattle.offers.specs.Running.{unmarked, running_start, running_next, resumed, none_left, all_made}
 use Rattle.offers.proofs.run.Goals as goal
 
-pub overflow_cast-kept : goal.overflow_cast-kept
-overflow_cast-kept c = omega (arith, c.requires.0.loaded.edges)
+pub overflow_cast-standing : goal.overflow_cast-standing
+overflow_cast-standing c = omega (arith, c.requires.0.loaded.edges)
 
 pub loop-i-init : goal.loop-i-init
-loop-i-init c = ((λ R. running_start c.args.g R), λ i l. absurd (omega arith))
+loop-i-init c = ((λ R. running_start c.args.g.now R), λ i l. absurd (omega arith))
 
-pub next_offer-e-requires : goal.next_offer-e-requires
-next_offer-e-requires c =
-    let g = c.args.g in
+pub next_offer-requires : goal.next_offer-requires
+next_offer-requires c =
+    let g = c.args.g.now in
     let L = c.requires.0.loaded in (
       L.surveyors,
       L.edges,
@@ -32,15 +32,15 @@ turn-from-requires c =
 
 pub loop-i-preserved : goal.loop-i-preserved
 loop-i-preserved c =
-    let e = c.if-m-e.false in
-    let n = c.next_offer-e in
+    let e = c.in-Some.ensures.0 in
+    let n = c.in-Some in
     let i = c.loop-i-test.true in
     let l = c.loop-i in
-    let g = c.args.g in
-    let o = standing l.next l.kept l.held in
+    let g = c.args.g.now in
+    let o = l.standing in
     let T = c.turn-from.ensures in (
-      (λ R. running_next g R c.args.cell.now c.requires.1 o l.i (l.invariant.0 R) n.result n.ensures _ _ T (omega (arith, i)) (omega (arith, e))),
-      resumed g c.requires.0 c.args.cell.now c.requires.1 o l.i (l.invariant.0 c.requires.0) n.result n.ensures _ _ T (omega (arith, e)),
+      (λ R. running_next g R c.args.cell.now c.requires.1 o l.i (l.invariant.0 R) n.e n.ensures.1 _ _ T (omega (arith, i)) (omega (arith, e, n.ensures.1))),
+      resumed g c.requires.0 c.args.cell.now c.requires.1 o l.i (l.invariant.0 c.requires.0) n.e n.ensures.1 _ _ T (omega (arith, e, n.ensures.1)),
     )
 
 -- m offers were made
@@ -50,17 +50,17 @@ returns-after-loop-i c =
     λ R. (
       l.i,
       l.invariant.0 R,
-      all_made c.args.g R (standing l.next l.kept l.held) l.i (l.invariant.0 R) (omega arith),
+      all_made c.args.g.now R (l.standing) l.i (l.invariant.0 R) (omega arith),
     )
 
 -- nobody has one left
-pub returns-then-m-e : goal.returns-then-m-e
-returns-then-m-e c =
+pub returns-in_default : goal.returns-in_default
+returns-in_default c =
     let l = c.loop-i in
-    let n = c.next_offer-e in
+    let g = c.args.g.now in
+    let e : g.m ≤ offer_of g.m g.ns c.args.cell.now l.standing.next l.standing.held = omega (arith, c.in_default.ensures) in
     λ R. (
       l.i,
       l.invariant.0 R,
-      none_left c.args.g R c.args.cell.now c.requires.1 (standing l.next l.kept l.held) l.i (l.invariant.0 R) n.result n.ensures
-          (omega arith),
+      none_left g R c.args.cell.now c.requires.1 l.standing l.i (l.invariant.0 R) _ refl e,
     )

@@ -12,7 +12,7 @@ pub loop-i-init : goal.loop-i-init
 loop-i-init c = (
   zero-le,
   (let e : c.args.n ≡ c.args.n - 0 = omega arith in ap
-      (λ t. chase_in c.args.n c.args.sv.now c.args.st.now c.args.a c.args.b t c.args.k c.args.day.now) e),
+      (λ t. chase_in c.args.n c.args.ends.now.surveyors c.args.ends.now.stands c.args.a c.args.b t c.args.k c.args.sheet.now.day) e),
   c.requires.turn,
 )
 
@@ -26,8 +26,8 @@ returns-then-e-eq0 c =
     let a = c.args in
     let r = c.settle-e.ensures in
     let (none, held) = stand_ends c.requires c.loop-i.invariant.2 r.0 r.1 c.if-e-eq0.true in (
-      sym (c.loop-i.invariant.1 ∙ turns a.n a.sv.now a.st.now a.a a.b c.loop-i.i c.loop-i.cur c.loop-i.day (omega arith)
-          ∙ chase_stop a.n a.sv.now a.st.now a.a a.b (a.n - (c.loop-i.i + 1)) c.loop-i.cur c.loop-i.day a.n none (omega arith)),
+      sym (c.loop-i.invariant.1 ∙ turns a.n a.ends.now.surveyors a.ends.now.stands a.a a.b c.loop-i.i c.loop-i.cur c.loop-i.sheet.day (omega arith)
+          ∙ chase_stop a.n a.ends.now.surveyors a.ends.now.stands a.a a.b (a.n - (c.loop-i.i + 1)) c.loop-i.cur c.loop-i.sheet.day a.n none (omega arith)),
       c.loop-i.invariant.2.told,
       held,
     )
@@ -46,8 +46,8 @@ met_2 c =
 pub overflow_cast-x : goal.overflow_cast-x
 overflow_cast-x c = omega (arith, met (goal.at.overflow_cast-x c).Else-e-eq0, c.requires.many)
 
-pub bounds-day-x : goal.bounds-day-x
-bounds-day-x c = omega (arith, met (goal.at.bounds-day-x c).Else-e-eq0, c.requires.many)
+pub bounds-sheet-x : goal.bounds-sheet-x
+bounds-sheet-x c = omega (arith, met (goal.at.bounds-sheet-x c).Else-e-eq0, c.requires.many)
 
 pub settle-f-requires : goal.settle-f-requires
 settle-f-requires c =
@@ -61,8 +61,8 @@ returns-then-f-eq0 c =
     let (e-in, e-low, U) = stand_meets c.requires c.loop-i.invariant.2 r.ensures.0 r.ensures.1 c.if-e-eq0.false in
     let q = c.settle-f.ensures in
     let (none, held) = surveyor_ends c.requires U q.0 q.1 c.if-f-eq0.true in (
-      sym (c.loop-i.invariant.1 ∙ turns a.n a.sv.now a.st.now a.a a.b c.loop-i.i c.loop-i.cur c.loop-i.day (omega arith)
-          ∙ chase_half a.n a.sv.now a.st.now a.a a.b (a.n - (c.loop-i.i + 1)) c.loop-i.cur c.loop-i.day (r.result - 1) e-low
+      sym (c.loop-i.invariant.1 ∙ turns a.n a.ends.now.surveyors a.ends.now.stands a.a a.b c.loop-i.i c.loop-i.cur c.loop-i.sheet.day (omega arith)
+          ∙ chase_half a.n a.ends.now.surveyors a.ends.now.stands a.a a.b (a.n - (c.loop-i.i + 1)) c.loop-i.cur c.loop-i.sheet.day (r.result - 1) e-low
           a.n none
           e-in (omega arith)),
       held,
@@ -72,8 +72,8 @@ returns-then-f-eq0 c =
 pub overflow_cast-cur : goal.overflow_cast-cur
 overflow_cast-cur c = omega (arith, met_2 (goal.at.overflow_cast-cur c).Else-f-eq0, c.requires.many)
 
-pub bounds-day-cur : goal.bounds-day-cur
-bounds-day-cur c = omega (arith, met_2 (goal.at.bounds-day-cur c).Else-f-eq0, c.requires.many)
+pub bounds-sheet-cur : goal.bounds-sheet-cur
+bounds-sheet-cur c = omega (arith, met_2 (goal.at.bounds-sheet-cur c).Else-f-eq0, c.requires.many)
 
 pub loop-i-preserved : goal.loop-i-preserved
 loop-i-preserved c =
@@ -84,8 +84,8 @@ loop-i-preserved c =
     let (f-in, f-low, W) = surveyor_meets c.requires U q.ensures.0 q.ensures.1 c.if-f-eq0.false in
     let more = c.loop-i-test.true in (
       omega (arith, more),
-      c.loop-i.invariant.1 ∙ turns a.n a.sv.now a.st.now a.a a.b c.loop-i.i c.loop-i.cur c.loop-i.day (omega (arith, more))
-          ∙ chase_on a.n a.sv.now a.st.now a.a a.b (a.n - (c.loop-i.i + 1)) c.loop-i.cur c.loop-i.day (r.result - 1) e-low
+      c.loop-i.invariant.1 ∙ turns a.n a.ends.now.surveyors a.ends.now.stands a.a a.b c.loop-i.i c.loop-i.cur c.loop-i.sheet.day (omega (arith, more))
+          ∙ chase_on a.n a.ends.now.surveyors a.ends.now.stands a.a a.b (a.n - (c.loop-i.i + 1)) c.loop-i.cur c.loop-i.sheet.day (r.result - 1) e-low
           (q.result - 1) f-low e-in f-in,
       W,
     )
@@ -99,10 +99,10 @@ pub returns : goal.returns
 returns c =
     let a = c.args in
     let r = c.settle.ensures in
-    let end : chase_in a.n a.sv.now a.st.now a.a a.b a.n a.k a.day.now ≡ c.loop-i.day = c.loop-i.invariant.1
-    ∙ turns_end a.n a.sv.now a.st.now a.a a.b c.loop-i.i c.loop-i.cur c.loop-i.day (omega arith) in
-    let free = proper_ends a.n a.sv.now a.st.now c.loop-i.day c.loop-i.wt c.loop-i.ws c.loop-i.cur a.a a.b c.requires.nodes_t
-    c.requires.differ c.requires.a_in c.requires.b_in c.loop-i.invariant.2 (subst (λ ds. Proper (at a.sv.now) (at a.st.now) a.n (at ds)) end
+    let end : chase_in a.n a.ends.now.surveyors a.ends.now.stands a.a a.b a.n a.k a.sheet.now.day ≡ c.loop-i.sheet.day = c.loop-i.invariant.1
+    ∙ turns_end a.n a.ends.now.surveyors a.ends.now.stands a.a a.b c.loop-i.i c.loop-i.cur c.loop-i.sheet.day (omega arith) in
+    let free = proper_ends a.n a.ends.now.surveyors a.ends.now.stands c.loop-i.sheet.day c.loop-i.sheet.at_stands c.loop-i.sheet.at_surveyors c.loop-i.cur a.a a.b c.requires.nodes_t
+    c.requires.differ c.requires.a_in c.requires.b_in c.loop-i.invariant.2 (subst (λ ds. Proper (at a.ends.now.surveyors) (at a.ends.now.stands) a.n (at ds)) end
     c.requires.proper) in
     (sym end, c.loop-i.invariant.2.told, (stand_ends c.requires c.loop-i.invariant.2 r.0 r.1 (r.0 ∙ free)).1)
 

@@ -5,4 +5,4 @@ use Rattle.plan_days.proofs.chase.Given as goal
 
 abbrev pub invariant-loop-i : goal.invariant-loop-i
 invariant-loop-i l =
-    (l.i ≤ l.n) × (chase_in l.n l.sv l.st l.a l.b l.n l.k l.initial.day ≡ chase_in l.n l.sv l.st l.a l.b (l.n - l.i) l.cur l.day) × Turn l.n l.st l.sv l.day l.wt l.ws l.cur l.a l.b
+    (l.i ≤ l.n) × (chase_in l.n l.ends.surveyors l.ends.stands l.a l.b l.n l.k l.initial.sheet.day ≡ chase_in l.n l.ends.surveyors l.ends.stands l.a l.b (l.n - l.i) l.cur l.sheet.day) × Turn l.n l.ends.stands l.ends.surveyors l.sheet.day l.sheet.at_stands l.sheet.at_surveyors l.cur l.a l.b

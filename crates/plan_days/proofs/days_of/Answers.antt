@@ -12,7 +12,7 @@ loop-k-init c = (zero-le, refl, none_held _ _, none_held _ _)
 pub with_day-requires : goal.with_day-requires
 with_day-requires c =
     let a = c.args in
-    room a.sv.now a.st.now a.n c.requires.0 c.requires.3 c.requires.4 c.loop-k.k (omega arith) c.requires.1 c.requires.2 c.loop-k.invariant.1
+    room a.ends.now.surveyors a.ends.now.stands a.n c.requires.0 c.requires.3 c.requires.4 c.loop-k.k (omega arith) c.requires.1 c.requires.2 c.loop-k.invariant.1
     c.loop-k.invariant.2 c.loop-k.invariant.3
 
 pub loop-k-smaller : goal.loop-k-smaller
@@ -24,8 +24,8 @@ loop-k-preserved c =
     let a = c.args in
     let r = c.with_day.ensures in (
       omega arith,
-      r.0 ∙ ap (with_day_in c.loop-k.k a.sv.now a.st.now) c.loop-k.invariant.1
-          ∙ ap (λ k. spread_in k a.sv.now a.st.now) (sym (add-one c.loop-k.k)),
+      r.0 ∙ ap (with_day_in c.loop-k.k a.ends.now.surveyors a.ends.now.stands) c.loop-k.invariant.1
+          ∙ ap (λ k. spread_in k a.ends.now.surveyors a.ends.now.stands) (sym (add-one c.loop-k.k)),
       r.1,
       r.2,
     )
@@ -34,4 +34,4 @@ pub returns : goal.returns
 returns c =
     let a = c.args in
     let e : c.loop-k.k ≡ a.n = omega arith in
-    c.loop-k.invariant.1 ∙ ap (λ k. spread_in k a.sv.now a.st.now) e
+    c.loop-k.invariant.1 ∙ ap (λ k. spread_in k a.ends.now.surveyors a.ends.now.stands) e

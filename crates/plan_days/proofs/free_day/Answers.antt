@@ -35,12 +35,6 @@ returns-then-who-row-eq0 c =
     sym (low_hit (λ d. eqb (at a.who.now (place (at a.end.now a.k) d)) 0) c.loop-d.d last_day c.loop-d.invariant.1 (eqb_yes (at a.who.now
     (place (at a.end.now a.k) c.loop-d.d)) 0 c.if-who-row-eq0.true) (omega arith))
 
-pub overflow_add-d : goal.overflow_add-d
-overflow_add-d c = omega arith
-
-pub loop-d-smaller : goal.loop-d-smaller
-loop-d-smaller c = omega arith
-
 pub loop-d-preserved : goal.loop-d-preserved
 loop-d-preserved c =
     let a = c.args in (
@@ -53,4 +47,4 @@ pub returns : goal.returns
 returns c =
     let a = c.args in
     let e : c.loop-d.d ≡ last_day = omega arith in
-    sym c.loop-d.invariant.1 ∙ ap (low (λ d. eqb (at a.who.now (place (at a.end.now a.k) d)) 0)) e
+    sym e ∙ sym c.loop-d.invariant.1 ∙ ap (low (λ d. eqb (at a.who.now (place (at a.end.now a.k) d)) 0)) e

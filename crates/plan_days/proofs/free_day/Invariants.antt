@@ -1,4 +1,4 @@
-use Rattle.std.proofs.Common.{◌-◌, ◌≤◌, ◌≡◌, eqb}
+use Rattle.std.proofs.Common.{◌≤◌, ◌≡◌, eqb}
 use Rattle.lists.specs.Search.{low}
 use Rattle.arrays.specs.ArrayInstance.{at}
 use Rattle.plan_days.specs.Tables.{place}
@@ -6,6 +6,3 @@ use Rattle.plan_days.proofs.free_day.Given as goal
 
 abbrev pub invariant-loop-d : goal.invariant-loop-d
 invariant-loop-d l = (l.d ≤ 9) × (low (λ d. eqb (at l.who (place (at l.end l.k) d)) 0) l.d ≡ l.d)
-
-abbrev pub decreases-loop-d : goal.decreases-loop-d
-decreases-loop-d l = 9 - l.d

@@ -15,13 +15,13 @@ who_at-requires c =
       c.requires.nodes_s a.k (omega arith),
       omega (
         arith,
-        b_low a.k a.sv.now a.st.now a.day.now a.ws.now a.wt.now
+        b_low a.k a.ends.now.surveyors a.ends.now.stands a.sheet.now.day a.sheet.now.at_surveyors a.sheet.now.at_stands
             c.requires f.result f.ensures,
       ),
     )
 
-pub bounds-day-k : goal.bounds-day-k
-bounds-day-k c = search rules
+pub bounds-sheet-k : goal.bounds-sheet-k
+bounds-sheet-k c = search rules
 
 pub tell-requires : goal.tell-requires
 tell-requires c =
@@ -31,7 +31,7 @@ tell-requires c =
       c.requires.nodes_s a.k (omega arith),
       omega (
         arith,
-        b_low a.k a.sv.now a.st.now a.day.now a.ws.now a.wt.now
+        b_low a.k a.ends.now.surveyors a.ends.now.stands a.sheet.now.day a.sheet.now.at_surveyors a.sheet.now.at_stands
             c.requires f.result f.ensures,
       ),
     )
@@ -44,7 +44,7 @@ tell-requires-then-who_at-eq0 c =
       c.requires.nodes_t a.k (omega arith),
       omega (
         arith,
-        b_low a.k a.sv.now a.st.now a.day.now a.ws.now a.wt.now
+        b_low a.k a.ends.now.surveyors a.ends.now.stands a.sheet.now.day a.sheet.now.at_surveyors a.sheet.now.at_stands
             c.requires f.result f.ensures,
       ),
     )
@@ -53,18 +53,18 @@ pub returns-then-who_at-eq0 : goal.returns-then-who_at-eq0
 returns-then-who_at-eq0 c =
     let a = c.args in
     let f = c.free_day-b in
-    let (days, held_s, held_t) = placed a.k a.sv.now a.st.now a.day.now a.ws.now a.wt.now c.requires f.result f.ensures
+    let (days, held_s, held_t) = placed a.k a.ends.now.surveyors a.ends.now.stands a.sheet.now.day a.sheet.now.at_surveyors a.sheet.now.at_stands c.requires f.result f.ensures
     (sym c.who_at.ensures ∙ c.if-who_at-eq0.true) in (
       days,
-      subst (Held (a.k + 1) a.sv.now (set a.day.now a.k f.result)) (sym c.tell.ensures) held_s,
-      subst (Held (a.k + 1) a.st.now (set a.day.now a.k f.result)) (sym c.tell-then-who_at-eq0.ensures) held_t,
+      subst (Held (a.k + 1) a.ends.now.surveyors (set a.sheet.now.day a.k f.result)) (sym c.tell.ensures) held_s,
+      subst (Held (a.k + 1) a.ends.now.stands (set a.sheet.now.day a.k f.result)) (sym c.tell-then-who_at-eq0.ensures) held_t,
     )
 
 pub free_day-a-requires : goal.free_day-a-requires
 free_day-a-requires c = (c.requires.many, c.requires.nodes_s c.args.k (omega arith))
 
-pub bounds-day-k-2 : goal.bounds-day-k-2
-bounds-day-k-2 c = search rules
+pub bounds-sheet-k-2 : goal.bounds-sheet-k-2
+bounds-sheet-k-2 c = search rules
 
 pub tell-requires-2 : goal.tell-requires-2
 tell-requires-2 c =
@@ -75,7 +75,7 @@ tell-requires-2 c =
       c.requires.nodes_s a.k (omega arith),
       omega (
         arith,
-        a_low a.k a.sv.now a.st.now a.day.now a.ws.now a.wt.now c.requires f.result f.ensures g.result
+        a_low a.k a.ends.now.surveyors a.ends.now.stands a.sheet.now.day a.sheet.now.at_surveyors a.sheet.now.at_stands c.requires f.result f.ensures g.result
             g.ensures (λ z. c.if-who_at-eq0.false (c.who_at.ensures ∙ z)),
       ),
     )
@@ -88,9 +88,9 @@ chase-requires c =
     let a = c.args in
     let f = c.free_day-b in
     let g = c.free_day-a in
-    subst (λ w. Chasing (a.k + 1) a.sv.now a.st.now g.result f.result a.k (set a.day.now a.k g.result) w a.wt.now)
+    subst (λ w. Chasing (a.k + 1) a.ends.now.surveyors a.ends.now.stands g.result f.result a.k (set a.sheet.now.day a.k g.result) w a.sheet.now.at_stands)
     (sym c.tell-2.ensures)
-    (chasing a.k a.sv.now a.st.now a.day.now a.ws.now a.wt.now c.requires f.result f.ensures g.result g.ensures
+    (chasing a.k a.ends.now.surveyors a.ends.now.stands a.sheet.now.day a.sheet.now.at_surveyors a.sheet.now.at_stands c.requires f.result f.ensures g.result g.ensures
     (λ z. c.if-who_at-eq0.false (c.who_at.ensures ∙ z)))
 
 pub returns : goal.returns
@@ -99,7 +99,7 @@ returns c =
     let f = c.free_day-b in
     let g = c.free_day-a in
     let r = c.chase.ensures in (
-      r.0 ∙ chained a.k a.sv.now a.st.now a.day.now a.ws.now a.wt.now c.requires f.result f.ensures g.result g.ensures
+      r.0 ∙ chained a.k a.ends.now.surveyors a.ends.now.stands a.sheet.now.day a.sheet.now.at_surveyors a.sheet.now.at_stands c.requires f.result f.ensures g.result g.ensures
           (λ z. c.if-who_at-eq0.false (c.who_at.ensures ∙ z)),
       r.1,
       r.2,

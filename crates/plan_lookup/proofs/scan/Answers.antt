@@ -9,7 +9,10 @@ loop-e-init c = (omega arith, c.requires.0, λ d h k. absurd (omega arith))
 
 pub returns-then-sv-e : goal.returns-then-sv-e
 returns-then-sv-e c =
-    record { from = c.loop-e.invariant.0; to = c.loop-e.invariant.1; none = c.loop-e.invariant.2; hit = λ h. true_t c.if-sv-e.true }
+    record {
+      inside = omega arith;
+      scanned = record { from = c.loop-e.invariant.0; to = c.loop-e.invariant.1; none = c.loop-e.invariant.2; hit = λ h. true_t c.if-sv-e.true };
+    }
 
 pub loop-e-preserved : goal.loop-e-preserved
 loop-e-preserved c =
@@ -22,4 +25,7 @@ loop-e-preserved c =
 
 pub returns : goal.returns
 returns c =
-    record { from = c.loop-e.invariant.0; to = c.loop-e.invariant.1; none = c.loop-e.invariant.2; hit = λ h. absurd (omega arith) }
+    record {
+      inside = tt;
+      scanned = record { from = c.requires.0; to = omega arith; none = λ d h k. c.loop-e.invariant.2 d h (omega arith); hit = λ h. absurd (omega arith) };
+    }

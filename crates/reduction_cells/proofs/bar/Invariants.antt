@@ -1,4 +1,4 @@
-use Rattle.std.proofs.Common.{◌≡◌, ◌-◌, ◌≤◌, leb}
+use Rattle.std.proofs.Common.{◌≡◌, ◌≤◌, leb}
 use Rattle.lists.specs.Search.{low}
 use Rattle.model.specs.Limits.{empty_rank}
 use Rattle.arrays.specs.ArrayInstance.{flag}
@@ -7,6 +7,3 @@ use Rattle.reduction_cells.proofs.bar.Given as goal
 
 abbrev pub invariant-loop-r : goal.invariant-loop-r
 invariant-loop-r l = (l.r ≤ empty_rank) × (l.c ≡ passed l.m l.table (flag l.p) l.v l.r) × (low (λ r. leb l.q (passed l.m l.table (flag l.p) l.v r)) l.r ≡ l.r)
-
-abbrev pub decreases-loop-r : goal.decreases-loop-r
-decreases-loop-r l = empty_rank - l.r

@@ -7,6 +7,3 @@ use Rattle.reduction_cells.proofs.cells.Given as goal
 abbrev pub invariant-loop-i : goal.invariant-loop-i
 invariant-loop-i l = (l.i ≤ l.m) × (length l.cell ≡ length l.initial.cell)
     × Firsts l.m (place l.end l.rank) (λ e. not (flag l.tied e)) (length l.initial.cell) l.i l.cell
-
-abbrev pub decreases-loop-i : goal.decreases-loop-i
-decreases-loop-i l = l.i

@@ -61,11 +61,11 @@ overflow_add-n c =
           (differ (flag a.rem.now e && ltb l.c a.q) (flag l.f e)),
     )
 
-pub bounds-f-e-then-e-m : goal.bounds-f-e-then-e-m
-bounds-f-e-then-e-m c = omega (arith, c.requires.v_lt_node_limit.1.edges)
+pub bounds-f-e-in-loop-r : goal.bounds-f-e-in-loop-r
+bounds-f-e-in-loop-r c = omega (arith, c.requires.v_lt_node_limit.1.edges)
 
-pub bounds-rem-e-then-e-m : goal.bounds-rem-e-then-e-m
-bounds-rem-e-then-e-m c = omega (arith, c.requires.v_lt_node_limit.1.edges)
+pub bounds-rem-e-in-loop-r : goal.bounds-rem-e-in-loop-r
+bounds-rem-e-in-loop-r c = omega (arith, c.requires.v_lt_node_limit.1.edges)
 
 pub overflow_add-c : goal.overflow_add-c
 overflow_add-c c =
@@ -78,14 +78,14 @@ overflow_add-c c =
       byte_one (flag a.rem.now (in_cell a.table.now a.v l.r)),
     )
 
-pub loop-r-preserved-then-e-m : goal.loop-r-preserved-then-e-m
-loop-r-preserved-then-e-m c =
+pub loop-r-preserved : goal.loop-r-preserved
+loop-r-preserved c =
     let a = c.args in
     let l = c.loop-r in
     let e = in_cell a.table.now a.v l.r in
     let P = c.requires.v_lt_node_limit in
     let t = c.loop-r-test.true in
-    let lt = c.if-e-m.true in
+    let lt = c.if-m-e.false in
     let on = flag a.rem.now e && ltb l.c a.q in
     let b = differ on (flag l.f e) in
     let room : l.n < length l.turned = omega (arith, l.invariant.4, l.invariant.5, t) in (
@@ -111,13 +111,13 @@ loop-r-preserved-then-e-m c =
           (low_put l.turned l.n (at a.other.now e) b room (P.2 e lt) l.invariant.6),
     )
 
-pub loop-r-preserved : goal.loop-r-preserved
-loop-r-preserved c =
+pub loop-r-preserved-then-m-e : goal.loop-r-preserved-then-m-e
+loop-r-preserved-then-m-e c =
     let a = c.args in
     let l = c.loop-r in
     let e = in_cell a.table.now a.v l.r in
     let P = c.requires.v_lt_node_limit in
-    let left = c.if-e-m.false in (
+    let left = c.if-m-e.true in (
       omega arith,
       omega (
         arith,

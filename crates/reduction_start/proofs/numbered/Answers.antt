@@ -33,8 +33,8 @@ pub returns : goal.returns
 returns c =
     let y = c.everyone-all in
     let a = c.args in
-    let L = node_lists a.tabs.now a.tabt.now in
-    let X = looks a.rem.now a.fs.now a.ft.now a.qs.now a.qt.now in
+    let L = node_lists a.tables.now.surveyors a.tables.now.stands in
+    let X = looks a.state.now.rem a.arrows.now.surveyors a.arrows.now.stands a.state.now.qs a.state.now.qt in
     let N = c.first_renewed.ensures in
     let NS = c.second_renewed.ensures in
     let NT = c.second_renewed-2.ensures in
@@ -43,7 +43,7 @@ returns c =
     let R₃ = rows_set 3 _ 2 _ (omega arith) R₂ NT.0 in
     let q = rows_three a.lead.now c.requires.4 R₁ R₂ R₃ in record {
       rows = R₃;
-      by_index = λ sv st D. let A = edges a.m sv st a.rs.now a.rt.now in record {
+      by_index = λ sv st D. let A = edges a.g.now.m sv st a.g.now.rank_s a.g.now.rank_t in record {
         first = λ v w. ap (λ (l : List ℕ). at l v) q.0
             ∙ all_read y.result y.ensures (first_now A L X) _ _ (N.1 sv D.listed_s) v w;
         at_s = λ v w. ap (λ (l : List ℕ). at l v) q.1

@@ -5,11 +5,11 @@ use Rattle.reduction_state.proofs.act.Goals as goal
 pub returns : goal.returns
 returns c =
     record {
-      dt_after = simp (
+      state_after = simp (
         c.fixes-fix.ensures,
-        c.fewer-left.ensures,
+        c.saturating_sub-left.ensures,
         c.lowered.ensures,
-        c.fewer-more.ensures,
+        c.saturating_sub-more.ensures,
         c.lowered-2.ensures,
       );
       value = refl;

@@ -8,7 +8,7 @@ loop-i-init c = (zero-le, fill_none 0 32 _)
 
 pub loop-i-preserved : goal.loop-i-preserved
 loop-i-preserved c =
-    (omega arith, fill_next 0 32 _ _ _ _ c.cut.ensures (omega arith) c.loop-i.invariant.1)
+    (omega arith, fill_next 0 32 _ _ _ _ c.min.ensures (omega arith) c.loop-i.invariant.1)
 
 pub returns : goal.returns
 returns c = λ e h. fill_at 0 c.loop-i.invariant.1 e (omega arith)

@@ -9,6 +9,6 @@ returns c =
       none = no_flags 1024;
       deg_s = c.tally-ds.ensures;
       deg_t = c.tally-dt.ensures;
-      cut_s = c.cuts-cut_s.ensures;
-      cut_t = c.cuts-cut_t.ensures;
+      cut_s = c.cuts-qs.ensures;
+      cut_t = c.cuts-qt.ensures;
     }

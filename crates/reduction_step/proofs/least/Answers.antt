@@ -10,7 +10,7 @@ loop-i-init c = (omega arith, least_one c.args.xs.now)
 pub loop-i-preserved : goal.loop-i-preserved
 loop-i-preserved c =
     let l = c.loop-i in
-    (omega arith, least_next c.args.xs.now l.i l.l c.lesser-l.result l.invariant.1 c.lesser-l.ensures)
+    (omega arith, least_next c.args.xs.now l.i l.l c.min-l.result l.invariant.1 c.min-l.ensures)
 
 pub returns : goal.returns
 returns c =

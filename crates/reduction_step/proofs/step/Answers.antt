@@ -7,26 +7,26 @@ use Rattle.reduction_step.specs.RuleChosen.{Quiet, silent_1, passes, says, first
 use Rattle.reduction_step.proofs.step.Goals.{Start, Else-e1-m, Else-e2-m}
 use Rattle.reduction_step.proofs.step.Goals as goal
 
-quiet2 : (c : Else-e1-m) → let a = c.args in Quiet a.m a.st.now (node_lists a.tabs.now a.tabt.now) (looks a.rem.now a.fs.now a.ft.now a.qs.now a.qt.now) a.lead.now 2
+quiet2 : (c : Else-e1-m) → let a = c.args in Quiet a.g.now.m a.g.now.st (node_lists a.tables.now.surveyors a.tables.now.stands) (looks a.state.now.rem a.arrows.now.surveyors a.arrows.now.stands a.state.now.qs a.state.now.qt) a.lead.now 2
 quiet2 c sv rs rt H quota_s quota_t K F fixed k_s k_t S =
     let a = c.args in
-    let Z = state_of a.rem.now fixed k_s k_t in
+    let Z = state_of a.state.now.rem fixed k_s k_t in
     let l = c.least-e1 in
     passes (instance_of K) Z 1 l.result (silent_1 (instance_of K) Z)
-    (first_says (looks a.rem.now a.fs.now a.ft.now a.qs.now a.qt.now) K F fixed k_s k_t S (row a.lead.now 0) (row a.lead.now 1) (row a.lead.now 2) H l.result l.ensures)
+    (first_says (looks a.state.now.rem a.arrows.now.surveyors a.arrows.now.stands a.state.now.qs a.state.now.qt) K F fixed k_s k_t S (row a.lead.now 0) (row a.lead.now 1) (row a.lead.now 2) H l.result l.ensures)
     (omega (arith, c.if-e1-m.false))
 
-quiet3 : (c : Else-e2-m) → let a = c.args in Quiet a.m a.st.now (node_lists a.tabs.now a.tabt.now) (looks a.rem.now a.fs.now a.ft.now a.qs.now a.qt.now) a.lead.now 3
+quiet3 : (c : Else-e2-m) → let a = c.args in Quiet a.g.now.m a.g.now.st (node_lists a.tables.now.surveyors a.tables.now.stands) (looks a.state.now.rem a.arrows.now.surveyors a.arrows.now.stands a.state.now.qs a.state.now.qt) a.lead.now 3
 quiet3 c sv rs rt H quota_s quota_t K F fixed k_s k_t S =
     let a = c.args in
-    let l = c.lesser-e2 in
+    let l = c.min-e2 in
     let l2 = c.least in
     let l3 = c.least-2 in
-    passes (instance_of K) (state_of a.rem.now fixed k_s k_t) 2 l.result
-    (passes (instance_of K) (state_of a.rem.now fixed k_s k_t) 1 c.least-e1.result (silent_1 (instance_of K) (state_of a.rem.now fixed k_s k_t))
-    (first_says (looks a.rem.now a.fs.now a.ft.now a.qs.now a.qt.now) K F fixed k_s k_t S (row a.lead.now 0) (row a.lead.now 1) (row a.lead.now 2) H c.least-e1.result c.least-e1.ensures)
+    passes (instance_of K) (state_of a.state.now.rem fixed k_s k_t) 2 l.result
+    (passes (instance_of K) (state_of a.state.now.rem fixed k_s k_t) 1 c.least-e1.result (silent_1 (instance_of K) (state_of a.state.now.rem fixed k_s k_t))
+    (first_says (looks a.state.now.rem a.arrows.now.surveyors a.arrows.now.stands a.state.now.qs a.state.now.qt) K F fixed k_s k_t S (row a.lead.now 0) (row a.lead.now 1) (row a.lead.now 2) H c.least-e1.result c.least-e1.ensures)
     (omega (arith, c.if-e1-m.false)))
-    (second_says (looks a.rem.now a.fs.now a.ft.now a.qs.now a.qt.now) K F fixed k_s k_t S (row a.lead.now 0) (row a.lead.now 1) (row a.lead.now 2) H
+    (second_says (looks a.state.now.rem a.arrows.now.surveyors a.arrows.now.stands a.state.now.qs a.state.now.qt) K F fixed k_s k_t S (row a.lead.now 0) (row a.lead.now 1) (row a.lead.now 2) H
     l2.result l3.result l.result l2.ensures l3.ensures l.ensures)
     (omega (arith, c.if-e2-m.false))
 
@@ -35,11 +35,12 @@ returns-then-e1-m c =
     let a = c.args in
     let l = c.least-e1 in record {
       sized_l_2 = c.requires.sized_l;
+      inside = c.if-e1-m.true;
       stepped = λ sv rs rt D H N. (
         N,
-        λ quota_s quota_t K F fixed k_s k_t S. let Z = state_of a.rem.now fixed k_s k_t in
+        λ quota_s quota_t K F fixed k_s k_t S. let Z = state_of a.state.now.rem fixed k_s k_t in
             says (instance_of K) Z 1 l.result (silent_1 (instance_of K) Z) (omega arith)
-            (first_says (looks a.rem.now a.fs.now a.ft.now a.qs.now a.qt.now) K F fixed k_s k_t S (row a.lead.now 0) (row a.lead.now 1) (row a.lead.now 2) H l.result l.ensures)
+            (first_says (looks a.state.now.rem a.arrows.now.surveyors a.arrows.now.stands a.state.now.qs a.state.now.qt) K F fixed k_s k_t S (row a.lead.now 0) (row a.lead.now 1) (row a.lead.now 2) H l.result l.ensures)
             (omega (arith, c.if-e1-m.true)),
       );
     }
@@ -47,15 +48,16 @@ returns-then-e1-m c =
 pub returns-then-e2-m : goal.returns-then-e2-m
 returns-then-e2-m c =
     let a = c.args in
-    let l = c.lesser-e2 in
+    let l = c.min-e2 in
     let l2 = c.least in
     let l3 = c.least-2 in record {
       sized_l_2 = c.requires.sized_l;
+      inside = c.if-e2-m.true;
       stepped = λ sv rs rt D H N. (
         N,
-        λ quota_s quota_t K F fixed k_s k_t S. says (instance_of K) (state_of a.rem.now fixed k_s k_t) 2 l.result
+        λ quota_s quota_t K F fixed k_s k_t S. says (instance_of K) (state_of a.state.now.rem fixed k_s k_t) 2 l.result
             (quiet2 (goal.at.returns-then-e2-m c).Else-e1-m sv rs rt H quota_s quota_t K F fixed k_s k_t S) (omega arith)
-            (second_says (looks a.rem.now a.fs.now a.ft.now a.qs.now a.qt.now) K F fixed k_s k_t S (row a.lead.now 0) (row a.lead.now 1) (row a.lead.now 2) H
+            (second_says (looks a.state.now.rem a.arrows.now.surveyors a.arrows.now.stands a.state.now.qs a.state.now.qt) K F fixed k_s k_t S (row a.lead.now 0) (row a.lead.now 1) (row a.lead.now 2) H
             l2.result l3.result l.result l2.ensures l3.ensures l.ensures)
             (omega (arith, c.if-e2-m.true)),
       );
@@ -69,9 +71,10 @@ returns c =
     let a = c.args in
     let E = c.renewed.ensures in record {
       sized_l_2 = E.sized_l_2;
+      inside = c.late.ensures.inside;
       stepped = λ sv rs rt D H N. let R = E.renews sv rs rt D N in (
         R.lates,
-        λ quota_s quota_t K F fixed k_s k_t S. c.late.ensures (instance_of K) (state_of a.rem.now fixed k_s k_t) refl
-            (later_named (looks a.rem.now a.fs.now a.ft.now a.qs.now a.qt.now) K F fixed k_s k_t S _ _ _ _ _ R) (quiet3 (goal.at.returns c).Else-e2-m sv rs rt H quota_s quota_t K F fixed k_s k_t S),
+        λ quota_s quota_t K F fixed k_s k_t S. c.late.ensures.named (instance_of K) (state_of a.state.now.rem fixed k_s k_t) refl
+            (later_named (looks a.state.now.rem a.arrows.now.surveyors a.arrows.now.stands a.state.now.qs a.state.now.qt) K F fixed k_s k_t S _ _ _ _ _ R) (quiet3 (goal.at.returns c).Else-e2-m sv rs rt H quota_s quota_t K F fixed k_s k_t S),
       );
     }

@@ -15,7 +15,7 @@ returns-then-not-on c =
     let h = c.if-not-on.true in record {
       rows = (p.2, p.3, refl);
       arrows = record { size = refl; anew = λ t. both_ways t h; still = λ t. refl };
-      by_index = λ st rt D. carried_still a.m a.sv.now st a.sv.now a.t a.ft.now _ _ (row a.lead.now 0) (row a.lead.now 1) a.olds.now;
+      by_index = λ st rt D. carried_still a.g.now.m a.g.now.sv st a.g.now.sv a.t a.ft.now _ _ (row a.lead.now 0) (row a.lead.now 1) a.olds.now;
     }
 
 pub paint-n-requires : goal.paint-n-requires
@@ -65,11 +65,11 @@ returns c =
             lead = _;
             seen = _;
             across = W.elsewhere;
-            own = painted_apart a.m st a.tabt.now D.owned_t a.sv.now a.rem.now a.t (at a.qt.now a.t) p.t_lt_node_limit.0 a.ft.now
+            own = painted_apart a.g.now.m st a.tables.now.stands D.owned_t a.g.now.sv a.state.now.rem a.t (at a.state.now.qt a.t) p.t_lt_node_limit.0 a.ft.now
                 _ _ W;
             led = W.elsewhere;
-            first = F.1 a.sv.now D.listed_s;
-            second = N.1 a.sv.now D.listed_s;
+            first = F.1 a.g.now.sv D.listed_s;
+            second = N.1 a.g.now.sv D.listed_s;
             marked = c.marked.ensures.1;
           });
     }

@@ -16,7 +16,7 @@ returns-then-not-on c =
     let h = c.if-not-on.true in record {
       rows = (p.2, p.3, refl);
       arrows = record { size = refl; anew = λ t. both_ways t h; still = λ t. refl };
-      by_index = λ sv rs D. carried_still a.m sv sv a.st.now a.s a.fs.now _ _ (row a.lead.now 0) (row a.lead.now 2) a.oldt.now;
+      by_index = λ sv rs D. carried_still a.g.now.m sv sv a.g.now.st a.s a.fs.now _ _ (row a.lead.now 0) (row a.lead.now 2) a.oldt.now;
     }
 
 pub paint-n-requires : goal.paint-n-requires
@@ -36,7 +36,7 @@ pub overflow_cast-lead : goal.overflow_cast-lead
 overflow_cast-lead c =
     let s = c in
     let T = s.requires.low.2 in
-    omega (arith, T.cells.edges, bound _ s.args.m _ (c.both.ensures T.lists.0 T.lists.1))
+    omega (arith, T.cells.edges, bound _ s.args.g.now.m _ (c.both.ensures T.lists.0 T.lists.1))
   where
     bound : (q : ℕ → Bool) (m r : ℕ) → r ≡ low q m → r ≤ m
     bound q m r i = omega (arith, (low_is q m).0)
@@ -77,7 +77,7 @@ returns c =
       );
       arrows = record { size = W.size_f; anew = λ t. (_, W); still = λ t. both_ways h t };
       by_index = λ sv rs D.
-          let apart = painted_apart a.m sv a.tabs.now D.owned_s a.st.now a.rem.now a.s (at a.qs.now a.s) p.s_lt_node_limit.0
+          let apart = painted_apart a.g.now.m sv a.tables.now.surveyors D.owned_s a.g.now.st a.state.now.rem a.s (at a.state.now.qs a.s) p.s_lt_node_limit.0
           a.fs.now _ _ W in
           carried_same (sym (row_other E 2 0 _ (λ (z : 0 ≡ 2). absurd (omega arith)) ∙ row_own a.lead.now 0 one (omega (arith, R.rows))))
           (row_other a.lead.now 0 2 one (λ (z : 2 ≡ 0). absurd (omega arith))) (sym (row_own E 2 _ (omega (arith, (entered_rows (goal.at.returns c).After-both).rows))))
@@ -89,7 +89,7 @@ returns c =
             led = λ u h. apart u (eqb_other u a.s h);
             first = one_renewed _ (row a.lead.now 0) a.s c.both.result (omega (arith, p.s_lt_node_limit.0, R.size 0 (omega arith)))
                 (c.both.ensures sv D.listed_s);
-            second = N.1 a.st.now D.listed_t;
+            second = N.1 a.g.now.st D.listed_t;
             marked = c.marked.ensures.1;
           });
     }

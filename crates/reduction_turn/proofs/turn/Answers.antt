@@ -20,8 +20,8 @@ neither : (f : Bool) (a b : ℕ) (fell : Bool) → fell ≡ not (eqb a b) → f 
 neither f a b fell t h = let p = or_parts f fell h in (p.0, same a b fell t p.1)
 
 -- the ends of the edge are nodes
-ends : (s : Start) → let a = s.args in let e = a.d.edge in (at a.sv.now e < node_limit) × (at a.st.now e < node_limit) × (e < entry_limit)
-    × (length a.olds.now ≡ node_limit) × (length a.oldt.now ≡ node_limit)
+ends : (s : Start) → let a = s.args in let e = a.d.edge in (at a.g.now.sv e < node_limit) × (at a.g.now.st e < node_limit) × (e < entry_limit)
+    × (length a.due.now.surveyors ≡ node_limit) × (length a.due.now.stands ≡ node_limit)
 ends s =
     let e = s.args.d.edge in
     let p = s.requires in
@@ -61,8 +61,8 @@ returns c =
     let e = a.d.edge in
     let p = c.requires in
     let D = p.edge_lt_m.1 in
-    let A = edges a.m a.sv.now a.st.now a.rs.now a.rt.now in
-    let L = node_lists a.tabs.now a.tabt.now in
+    let A = edges a.g.now.m a.g.now.sv a.g.now.st a.g.now.rank_s a.g.now.rank_t in
+    let L = node_lists a.tables.now.surveyors a.tables.now.stands in
     let S = c.from_surveyor.ensures in
     let T = c.from_stand.ensures in
     let RS = c.passed_over.ensures in
@@ -72,12 +72,12 @@ returns c =
       turns = λ x r fixed ds dt z i t.
           let tS = ap (λ (k : Acted). k.fells) t in
           let tT = ap (λ (k : Acted). k.fellt) t in (
-            rows_on A L D x.rem _ x.qs _ x.qt _ e p.edge_lt_m.0 (acted_gone a.sv.now a.st.now x r e _ i)
-                (acted_qs a.sv.now a.st.now x r e _ i) (acted_qt a.sv.now a.st.now x r e _ i) a.fs.now a.ft.now _ _
-                a.lead.now a.olds.now a.oldt.now p.sized_n.0.size_s p.sized_n.0.size_t _ _ _ _ _ _ S.rows.0 T.rows.0 R S.rows.2 T.rows.2
-                (S.by_index a.sv.now a.rs.now D) (T.by_index a.st.now a.rt.now D) _ _ (λ h. sym (same _ _ _ tS h)) (λ h. sym (same _ _ _ tT h))
-                (RS.1 a.sv.now D.listed_s) (RT.1 a.st.now D.listed_t),
-            shown_on A L D x a.fs.now a.ft.now r e p.edge_lt_m.0 z _ i _ _ _ _ S.arrows (neither _ _ _ _ tS) T.arrows (neither _ _ _ _ tT),
+            rows_on A L D x.rem _ x.qs _ x.qt _ e p.edge_lt_m.0 (acted_gone a.g.now.sv a.g.now.st x r e _ i)
+                (acted_qs a.g.now.sv a.g.now.st x r e _ i) (acted_qt a.g.now.sv a.g.now.st x r e _ i) a.arrows.now.surveyors a.arrows.now.stands _ _
+                a.lead.now a.due.now.surveyors a.due.now.stands p.sized_n.0.size_s p.sized_n.0.size_t _ _ _ _ _ _ S.rows.0 T.rows.0 R S.rows.2 T.rows.2
+                (S.by_index a.g.now.sv a.g.now.rank_s D) (T.by_index a.g.now.st a.g.now.rank_t D) _ _ (λ h. sym (same _ _ _ tS h)) (λ h. sym (same _ _ _ tT h))
+                (RS.1 a.g.now.sv D.listed_s) (RT.1 a.g.now.st D.listed_t),
+            shown_on A L D x a.arrows.now.surveyors a.arrows.now.stands r e p.edge_lt_m.0 z _ i _ _ _ _ S.arrows (neither _ _ _ _ tS) T.arrows (neither _ _ _ _ tT),
           );
     }
 
@@ -87,8 +87,8 @@ overflow_cast-s c = omega (arith, ends (goal.at.overflow_cast-s c).Start)
 pub overflow_cast-t : goal.overflow_cast-t
 overflow_cast-t c = omega (arith, ends (goal.at.overflow_cast-t c).Start)
 
-pub bounds-olds-s : goal.bounds-olds-s
-bounds-olds-s c = omega (arith, ends (goal.at.bounds-olds-s c).Start)
+pub bounds-due-s : goal.bounds-due-s
+bounds-due-s c = omega (arith, ends (goal.at.bounds-due-s c).Start)
 
-pub bounds-oldt-t : goal.bounds-oldt-t
-bounds-oldt-t c = omega (arith, ends (goal.at.bounds-oldt-t c).Start)
+pub bounds-due-t : goal.bounds-due-t
+bounds-due-t c = omega (arith, ends (goal.at.bounds-due-t c).Start)
