@@ -77,7 +77,7 @@ fn walk_costs(n: usize, arcs: &[u8; 4096]) -> [u8; 4096]
     d
 }
 
-// Whether no cost in the first n rows is above that of an arc.
+// Whether no cost in the first n rows is above that of an arc. Without a way out of the loop, so that the built code compares many costs at once.
 fn within(n: usize, arcs: &[u8; 4096], d: &[u8; 4096]) -> bool
     requires { n ≤ plan_limit }
     ensures { result ≡ true → (c : ℕ) → c < n * 64 → at d.now c ≤ min (at arcs.now c) 65 + 62 }

@@ -18,7 +18,8 @@ ghost use Rattle.rival_tables.specs.Within.{if_below};
 use instance::Instance;
 use limits::ENTRY_LIMIT;
 
-// The links through the edges of each node: its first edge, and from each edge the next one there; the number of all edges where there is none.
+// The links through the edges of each node: its first edge, and from each edge the next one there; the number of all edges where there is none. No Options:
+// a link stays two bytes, and the one test that ends a walk is also the one that keeps it inside the arrays. Walks along links have no count to go by.
 #[derive(Drop)]
 pub struct NodeLinks {
     pub head: [u16; 32],
