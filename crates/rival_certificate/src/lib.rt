@@ -37,9 +37,8 @@ fn row_of(d: &[u8; 4096], v: usize) -> [u8; 64]
     requires { v < 64 }
 {
     let mut o = [0u8; 64];
-    for j in 0..64 {
-        o[j] = d[v * 64 + j];
-    }
+    let from = v * 64;
+    o.copy_from_slice(&d[from..from + 64]);
     o
 }
 

@@ -164,7 +164,6 @@ pub fn put_row(table: &mut [u8; 4096], row: &[u8; 64], i: usize)
     requires { (i < 64) × (length table.old ≡ 4096) }
     ensures { (length table.new ≡ 4096) × Put table.old row.now i table.new }
 {
-    for k in 0..64 {
-        table[i * 64 + k] = row[k];
-    }
+    let from = i * 64;
+    table[from..from + 64].copy_from_slice(&row[..]);
 }
