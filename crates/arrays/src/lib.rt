@@ -10,7 +10,8 @@ ghost use Rattle.arrays.specs.Linked.{Linked};
 
 use limits::ENTRY_LIMIT;
 
-// A plan: whether it has each edge, and the list of those that it has, n of them.
+// A plan: whether it has each edge, and the list of those that it has, n of them. The list is an array of the highest size and not a slice: what is proved of
+// plans (Listed, Lists) speaks of array and count.
 #[derive(Clone, Copy)]
 pub struct ListedPlan<'a> {
     pub has: &'a [bool; ENTRY_LIMIT],

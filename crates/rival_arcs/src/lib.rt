@@ -1,5 +1,6 @@
 // The table of the arcs between the edges of a plan: for two places in the plan's list, the least price of an edge outside the plan that lies at the
-// stand of the first and at the surveyor of the second; 133 where there is none. A row is made by the links through the edges of its stand and, for
+// stand of the first and at the surveyor of the second; 133 where there is none, a price above all that count (arc_price says so), so that sums and minima
+// of bytes need no test. A row is made by the links through the edges of its stand and, for
 // each of them, through the places of its surveyor.
 #![tactic(auto)]
 

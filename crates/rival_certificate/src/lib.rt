@@ -37,9 +37,8 @@ fn row_of(d: &[u8; 4096], v: usize) -> [u8; 64]
     requires { v < 64 }
 {
     let mut o = [0u8; 64];
-    for j in 0..64 {
-        o[j] = d[v * 64 + j];
-    }
+    let from = v * 64;
+    o.copy_from_slice(&d[from..from + 64]);
     o
 }
 
@@ -77,7 +76,7 @@ fn walk_costs(n: usize, arcs: &[u8; 4096]) -> [u8; 4096]
     d
 }
 
-// Whether no cost in the first n rows is above that of an arc.
+// Whether no cost in the first n rows is above that of an arc. Without a way out of the loop, so that the built code compares many costs at once.
 fn within(n: usize, arcs: &[u8; 4096], d: &[u8; 4096]) -> bool
     requires { n ≤ plan_limit }
     ensures { result ≡ true → (c : ℕ) → c < n * 64 → at d.now c ≤ min (at arcs.now c) 65 + 62 }

@@ -22,7 +22,8 @@ use rival_levels::Found;
 use rival_tables::{NodeLinks, Room};
 use rival_walk::Swap;
 
-// The price, the edge gained at the start and the one gained at the end; the number of all edges where the plan's edge is lost.
+// The price, the edge gained at the start and the one gained at the end; the number of all edges where the plan's edge is lost. No Options: the test that the
+// number is below m also keeps the mark of `gained` inside its array, of which it would have to ask its callers else.
 #[derive(Drop)]
 pub struct Ends {
     pub price: u8,
@@ -57,7 +58,8 @@ pub fn round(
     free: bool,
     held: Ends,
 ) -> Ends
-    requires { (g.now.m ≤ entry_limit) × Low g.now.m g.now.sv node_limit × Low g.now.m g.now.st node_limit × LinksOf g.now.m g.now.st links_t.now × (x < g.now.m) × (y < g.now.m) × (a ≤ 3)
+    requires { (g.now.m ≤ entry_limit) × Low g.now.m g.now.sv node_limit × Low g.now.m g.now.st node_limit × LinksOf g.now.m g.now.st links_t.now
+        × (x < g.now.m) × (y < g.now.m) × (a ≤ 3)
         × ((rs : List ℕ) × Begun g.now.m g.now.sv g.now.st rs g.now.rank_t x y start a free) }
     ensures { (rs : List ℕ) → Begun g.now.m g.now.sv g.now.st rs g.now.rank_t x y start a free
         → told g.now.m result ≡ round g.now.m g.now.sv g.now.st rs g.now.rank_t x y plan.now room.now.s
@@ -172,7 +174,8 @@ pub fn swap(
     arcs: &[u8; 4096],
     found: Option<Found>,
 ) -> Swap
-    requires { (g.now.m ≤ entry_limit) × (plan.now.n ≤ plan_limit) × Low g.now.m g.now.sv node_limit × Low g.now.m g.now.st node_limit × Low plan.now.n plan.now.edges.now g.now.m × Small plan.now.n arcs.now
+    requires { (g.now.m ≤ entry_limit) × (plan.now.n ≤ plan_limit) × Low g.now.m g.now.sv node_limit × Low g.now.m g.now.st node_limit
+        × Low plan.now.n plan.now.edges.now g.now.m × Small plan.now.n arcs.now
         × Bounded g.now.m plan.now.n found × LinksOf g.now.m g.now.sv links_s.now × LinksOf g.now.m g.now.st links_t.now }
     ensures { Marks result.gone
         (gone_by g.now.m g.now.sv g.now.st g.now.rank_s g.now.rank_t plan.now.has.now room.now.s room.now.t

@@ -16,7 +16,19 @@ ghost use Rattle.rival_gains.specs.Gains.{gain_price, gain_price_but};
 use limits::ENTRY_LIMIT;
 use rival_tables::NodeLinks;
 
-// a number that is no node's
+// What a gain on one side is told by: the number of edges, their nodes on the other side and their ranks on this one, the edges of the plan, the room on the
+// other side, and the links on this one.
+#[derive(Clone, Copy)]
+pub struct Side<'a> {
+    pub m: usize,
+    pub other: &'a [u8; ENTRY_LIMIT],
+    pub rank: &'a [u8; ENTRY_LIMIT],
+    pub plan: &'a [bool; ENTRY_LIMIT],
+    pub room: &'a [bool; 32],
+    pub links: &'a NodeLinks,
+}
+
+// a number that is no node's. No Option: what least_rates promises holds of any number, and the innermost loop compares it without a test of its own.
 const NO_NODE: u8 = 32;
 
 // One more edge is offered to a row, in the columns of other nodes than its own, d; its rate is p.
@@ -31,62 +43,42 @@ pub fn parted(row: &mut [u8; 64], po: &[u8; 64], d: u8, p: u8)
 }
 
 // The least rates for an edge of the plan at node e with rank b, each column's node shut out; 3 if there is none.
-pub fn apart_row(
-    m: usize,
-    other: &[u8; ENTRY_LIMIT],
-    rank: &[u8; ENTRY_LIMIT],
-    plan: &[bool; ENTRY_LIMIT],
-    room: &[bool; 32],
-    links: &NodeLinks,
-    po: &[u8; 64],
-    e: u8,
-    b: u8,
-) -> [u8; 64]
-    requires { (m ≤ entry_limit) × Low m other.now node_limit × ((end : List ℕ) × LinksOf m end links.now) × (e < 32) }
-    ensures { (end : List ℕ) → LinksOf m end links.now
-        → Made 0 result (λ j. gain_price_but m end other.now rank.now plan.now room.now 3 e b
+pub fn apart_row(side: &Side, po: &[u8; 64], e: u8, b: u8) -> [u8; 64]
+    requires { (side.now.m ≤ entry_limit) × Low side.now.m side.now.other.now node_limit × ((end : List ℕ) × LinksOf side.now.m end side.now.links.now)
+        × (e < 32) }
+    ensures { (end : List ℕ) → LinksOf side.now.m end side.now.links.now
+        → Made 0 result (λ j. gain_price_but side.now.m end side.now.other.now side.now.rank.now side.now.plan.now side.now.room.now 3 e b
         (at po.now j)) 64 }
 {
     let mut o = [3u8; 64];
     let u = e as usize;
-    let mut f = links.head[u] as usize;
-    while f < m {
-        let d = other[f];
+    let mut f = side.links.head[u] as usize;
+    while f < side.m {
+        let d = side.other[f];
         let v = d as usize;
-        if !plan[f] & room[v] {
-            let p = vote_ranks::rated(b, rank[f]);
+        if !side.plan[f] & side.room[v] {
+            let p = vote_ranks::rated(b, side.rank[f]);
             parted(&mut o, po, d, p);
         }
-        f = links.next[f] as usize;
+        f = side.links.next[f] as usize;
     }
     o
 }
 
 // The same for all edges of the plan, a row for each. Where no node has room, nothing can be gained.
-pub fn apart(
-    m: usize,
-    other: &[u8; ENTRY_LIMIT],
-    rank: &[u8; ENTRY_LIMIT],
-    plan: &[bool; ENTRY_LIMIT],
-    room: &[bool; 32],
-    links: &NodeLinks,
-    n: usize,
-    pe: &[u8; 64],
-    po: &[u8; 64],
-    pr: &[u8; 64],
-) -> [u8; 4096]
-    requires { (m ≤ entry_limit) × Low m other.now node_limit × ((end : List ℕ) × LinksOf m end links.now)
+pub fn apart(side: &Side, n: usize, pe: &[u8; 64], po: &[u8; 64], pr: &[u8; 64]) -> [u8; 4096]
+    requires { (side.now.m ≤ entry_limit) × Low side.now.m side.now.other.now node_limit × ((end : List ℕ) × LinksOf side.now.m end side.now.links.now)
         × (n ≤ plan_limit) × Low n pe.now node_limit }
-    ensures { (end : List ℕ) → LinksOf m end links.now
-        → Rows result n (λ i j. gain_price_but m end other.now rank.now plan.now room.now 3
+    ensures { (end : List ℕ) → LinksOf side.now.m end side.now.links.now
+        → Rows result n (λ i j. gain_price_but side.now.m end side.now.other.now side.now.rank.now side.now.plan.now side.now.room.now 3
         (at pe.now i) (at pr.now i) (at po.now j)) }
 {
     let mut o = [3u8; 4096];
-    if rival_tables::first_room(room).is_none() {
+    if rival_tables::first_room(side.room).is_none() {
         return o;
     }
     for i in 0..n {
-        let row = apart_row(m, other, rank, plan, room, links, po, pe[i], pr[i]);
+        let row = apart_row(side, po, pe[i], pr[i]);
         rival_tables::put_row(&mut o, &row, i);
     }
     o
@@ -101,36 +93,27 @@ pub struct LeastRates {
 }
 
 // Both by one walk along the edges of node e; b is the rank there of the plan's edge, d its other node, or a number that is no node's.
-pub fn least_rates(
-    m: usize,
-    other: &[u8; ENTRY_LIMIT],
-    rank: &[u8; ENTRY_LIMIT],
-    plan: &[bool; ENTRY_LIMIT],
-    room: &[bool; 32],
-    links: &NodeLinks,
-    e: u8,
-    b: u8,
-    d: u8,
-) -> LeastRates
-    requires { (m ≤ entry_limit) × Low m other.now node_limit × ((end : List ℕ) × LinksOf m end links.now) × (e < 32) }
-    ensures { (end : List ℕ) → LinksOf m end links.now
-        → (result.all ≡ gain_price m end other.now rank.now plan.now room.now 6 e b)
-        × (result.apart ≡ gain_price_but m end other.now rank.now plan.now room.now 3 e b d) }
+pub fn least_rates(side: &Side, e: u8, b: u8, d: u8) -> LeastRates
+    requires { (side.now.m ≤ entry_limit) × Low side.now.m side.now.other.now node_limit × ((end : List ℕ) × LinksOf side.now.m end side.now.links.now)
+        × (e < 32) }
+    ensures { (end : List ℕ) → LinksOf side.now.m end side.now.links.now
+        → (result.all ≡ gain_price side.now.m end side.now.other.now side.now.rank.now side.now.plan.now side.now.room.now 6 e b)
+        × (result.apart ≡ gain_price_but side.now.m end side.now.other.now side.now.rank.now side.now.plan.now side.now.room.now 3 e b d) }
 {
     let mut all = 6;
     let mut apart = 3;
     let u = e as usize;
-    let mut f = links.head[u] as usize;
-    while f < m {
-        let o = other[f];
+    let mut f = side.links.head[u] as usize;
+    while f < side.m {
+        let o = side.other[f];
         let v = o as usize;
-        let ok = !plan[f] & room[v];
+        let ok = !side.plan[f] & side.room[v];
         if ok {
-            let p = vote_ranks::rated(b, rank[f]);
+            let p = vote_ranks::rated(b, side.rank[f]);
             all = p.min(all);
             apart = rival_tables::offered(!(o == d), p, apart);
         }
-        f = links.next[f] as usize;
+        f = side.links.next[f] as usize;
     }
     LeastRates {
         all: all,
@@ -139,29 +122,19 @@ pub fn least_rates(
 }
 
 // The least rates for all edges of the plan, no node shut out; 6 if there is none.
-pub fn gains(
-    m: usize,
-    other: &[u8; ENTRY_LIMIT],
-    rank: &[u8; ENTRY_LIMIT],
-    plan: &[bool; ENTRY_LIMIT],
-    room: &[bool; 32],
-    links: &NodeLinks,
-    n: usize,
-    pe: &[u8; 64],
-    pr: &[u8; 64],
-) -> [u8; 64]
-    requires { (m ≤ entry_limit) × Low m other.now node_limit × ((end : List ℕ) × LinksOf m end links.now)
+pub fn gains(side: &Side, n: usize, pe: &[u8; 64], pr: &[u8; 64]) -> [u8; 64]
+    requires { (side.now.m ≤ entry_limit) × Low side.now.m side.now.other.now node_limit × ((end : List ℕ) × LinksOf side.now.m end side.now.links.now)
         × (n ≤ plan_limit) × Low n pe.now node_limit }
-    ensures { (end : List ℕ) → LinksOf m end links.now
-        → Made 0 result (λ i. gain_price m end other.now rank.now plan.now room.now 6
+    ensures { (end : List ℕ) → LinksOf side.now.m end side.now.links.now
+        → Made 0 result (λ i. gain_price side.now.m end side.now.other.now side.now.rank.now side.now.plan.now side.now.room.now 6
         (at pe.now i) (at pr.now i)) n }
 {
     let mut o = [6u8; 64];
-    if rival_tables::first_room(room).is_none() {
+    if rival_tables::first_room(side.room).is_none() {
         return o;
     }
     for i in 0..n {
-        let r = least_rates(m, other, rank, plan, room, links, pe[i], pr[i], NO_NODE);
+        let r = least_rates(side, pe[i], pr[i], NO_NODE);
         o[i] = r.all;
     }
     o

@@ -16,6 +16,7 @@ ghost use Rattle.rival_tables.specs.Within.{if_below};
 use arrays::ListedPlan;
 use instance::Instance;
 use limits::ENTRY_LIMIT;
+use rival_gains::Side;
 use rival_levels::Found;
 use rival_tables::{NodeLinks, Room};
 
@@ -43,18 +44,26 @@ pub fn terminal_table(
     }
     let rps = rival_tables::gathered(plan.n, plan.edges, &g.rank_s);
     let rpt = rival_tables::gathered(plan.n, plan.edges, &g.rank_t);
-    let starts = rival_gains::apart(
-        g.m, &g.st, &g.rank_s, plan.has, &room.t, links_s, plan.n, ps, pt, &rps,
-    );
-    let stops = rival_gains::apart(
-        g.m, &g.sv, &g.rank_t, plan.has, &room.s, links_t, plan.n, pt, ps, &rpt,
-    );
-    let gs = rival_gains::gains(
-        g.m, &g.st, &g.rank_s, plan.has, &room.t, links_s, plan.n, ps, &rps,
-    );
-    let gt = rival_gains::gains(
-        g.m, &g.sv, &g.rank_t, plan.has, &room.s, links_t, plan.n, pt, &rpt,
-    );
+    let starting = Side {
+        m: g.m,
+        other: &g.st,
+        rank: &g.rank_s,
+        plan: plan.has,
+        room: &room.t,
+        links: links_s,
+    };
+    let stopping = Side {
+        m: g.m,
+        other: &g.sv,
+        rank: &g.rank_t,
+        plan: plan.has,
+        room: &room.s,
+        links: links_t,
+    };
+    let starts = rival_gains::apart(&starting, plan.n, ps, pt, &rps);
+    let stops = rival_gains::apart(&stopping, plan.n, pt, ps, &rpt);
+    let gs = rival_gains::gains(&starting, plan.n, ps, &rps);
+    let gt = rival_gains::gains(&stopping, plan.n, pt, &rpt);
     rival_tables::terminals(plan.n, &starts, &stops, &gs, &gt)
 }
 
@@ -74,28 +83,24 @@ fn alone_price(
 {
     let s = g.sv[e];
     let t = g.st[e];
-    let a = rival_gains::least_rates(
-        g.m,
-        &g.st,
-        &g.rank_s,
-        plan,
-        &room.t,
-        links_s,
-        s,
-        g.rank_s[e],
-        t,
-    );
-    let b = rival_gains::least_rates(
-        g.m,
-        &g.sv,
-        &g.rank_t,
-        plan,
-        &room.s,
-        links_t,
-        t,
-        g.rank_t[e],
-        s,
-    );
+    let starting = Side {
+        m: g.m,
+        other: &g.st,
+        rank: &g.rank_s,
+        plan: plan,
+        room: &room.t,
+        links: links_s,
+    };
+    let stopping = Side {
+        m: g.m,
+        other: &g.sv,
+        rank: &g.rank_t,
+        plan: plan,
+        room: &room.s,
+        links: links_t,
+    };
+    let a = rival_gains::least_rates(&starting, s, g.rank_s[e], t);
+    let b = rival_gains::least_rates(&stopping, t, g.rank_t[e], s);
     let apart = a.apart.min(b.apart);
     (apart + 3).min(a.all + b.all)
 }
@@ -111,7 +116,8 @@ pub fn alone(
 ) -> Option<usize>
     requires { (g.now.m ≤ entry_limit) × (plan.now.n ≤ plan_limit) × Low g.now.m g.now.sv node_limit × Low g.now.m g.now.st node_limit
         × LinksOf g.now.m g.now.sv links_s.now × LinksOf g.now.m g.now.st links_t.now × Low plan.now.n plan.now.edges.now g.now.m }
-    ensures { result ≡ if_below plan.now.n (alone_at g.now.m g.now.sv g.now.st g.now.rank_s g.now.rank_t plan.now.has.now room.now.s room.now.t plan.now.edges.now plan.now.n) }
+    ensures { result ≡ if_below plan.now.n (alone_at g.now.m g.now.sv g.now.st g.now.rank_s g.now.rank_t plan.now.has.now room.now.s room.now.t
+        plan.now.edges.now plan.now.n) }
 {
     if rival_tables::first_room(&room.s).is_none() {
         if rival_tables::first_room(&room.t).is_none() {

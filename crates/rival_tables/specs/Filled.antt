@@ -1,6 +1,10 @@
 -- Square tables of 64 columns that lie row after row in one array, filled row by row.
-use Rattle.std.specs.Prelude.{ℕ, zero, suc, ◌+◌, ◌*◌, ◌/◌, ◌%◌, ◌≤◌, ◌<◌, ◌≡◌, refl, Bool, true, false, cond, List, map, length, set, eqb, ltb}
-use Rattle.std.proofs.Common.{arith, sym, ap, ap₂, ◌∙◌, subst, get_or-set_same, get_or-set_other, lt-ltb, le-ltb, ltb-true, ltb-false}
+use Rattle.std.specs.Prelude.{ℕ, zero, suc, ◌+◌, ◌-◌, ◌*◌, ◌++◌, take, drop, ◌/◌, ◌%◌, ◌≤◌, ◌<◌, ◌≡◌, cond, List, map, length, set, eqb, ltb}
+use Rattle.std.proofs.Common.{get_or-take, get_or-drop, length-take-le, arith, sym, ap, ap₂, ◌∙◌, subst, get_or-set_same, get_or-set_other, lt-ltb, le-ltb, ltb-true, ltb-false}
+use borrow.Rule.Slice.PartMut.{put_mid}
+use Rattle.std.proofs.lemmas.List.{get_or-append_right, get_or_append_left}
+use Rattle.std.proofs.Math.Decide.{dec_lt}
+use Rattle.std.proofs.Math.Logic.{by_cases}
 use Rattle.lists.specs.Test.{by_bool, by-eq}
 use Rattle.lists.specs.Sum.{range}
 use Rattle.arrays.specs.ArrayInstance.{at}
@@ -22,41 +26,36 @@ Rows t n f = (i j : ℕ) → i < n → j < 64 → cell t i j ≡ f i j
 abbrev pub Put : List ℕ → List ℕ → ℕ → List ℕ → Type 0
 Put t row i r = (a b : ℕ) → b < 64 → cell r a b ≡ cond (eqb a i) (at row b) (cell t a b)
 
--- the same while its first k columns are written
-abbrev pub Putting : List ℕ → List ℕ → ℕ → ℕ → List ℕ → Type 0
-Putting t row i k r = (a b : ℕ) → b < 64 → cell r a b ≡ cond (eqb a i) (cond (ltb b k) (at row b) (cell t a b)) (cell t a b)
-
 -- a number other than k is below k + 1 if it is below k
 other_than : (j k : ℕ) → (j ≡ k → ⊥) → ltb j k ≡ ltb j (k + 1)
 other_than j k n = by_bool (ltb j k)
     (λ e. e ∙ sym (lt-ltb j (k + 1) (omega (arith, ltb-true j k e))))
     (λ e. e ∙ sym (le-ltb j (k + 1) (omega (arith, ltb-false j k e))))
 
-pub put_start : (t row : List ℕ) (i : ℕ) → Putting t row i 0 t
-put_start t row i a b h = go (eqb a i)
+-- the list with the row in the place of the 64 entries from row i on
+pub put_part : (t row : List ℕ) (i k : ℕ) → i < 64 → length t ≡ 4096 → length row ≡ 64 → k ≡ 64 → Put t row i (put_mid (i * 64) k t row)
+put_part t row i k h l w e a b bl = by-eq a i
+    (λ q s. get_or-append_right (take (i * 64) t) (row ++ behind) (i * 64) (a * 64 + b) 0 front (omega arith)
+    ∙ ap (at (row ++ behind)) (let p : a * 64 + b - i * 64 ≡ b = omega arith in p)
+    ∙ get_or_append_left row behind 0 b (omega arith)
+    ∙ sym (ap (λ x. cond x (at row b) (cell t a b)) s))
+    (λ n s. by_cases (dec_lt a i)
+    (λ g. get_or_append_left (take (i * 64) t) (row ++ behind) 0 (a * 64 + b) (omega (arith, front))
+    ∙ get_or-take (i * 64) t (a * 64 + b) 0 (omega arith)
+    ∙ sym (ap (λ x. cond x (at row b) (cell t a b)) s))
+    (λ g. let over : i + 1 ≤ a = omega arith in
+    get_or-append_right (take (i * 64) t) (row ++ behind) (i * 64) (a * 64 + b) 0 front (omega arith)
+    ∙ get_or-append_right row behind 64 (a * 64 + b - i * 64) 0 w (omega arith)
+    ∙ get_or-drop k (drop (i * 64) t) (a * 64 + b - i * 64 - 64) 0
+    ∙ get_or-drop (i * 64) t (k + (a * 64 + b - i * 64 - 64)) 0
+    ∙ ap (at t) (let p : i * 64 + (k + (a * 64 + b - i * 64 - 64)) ≡ a * 64 + b = omega arith in p)
+    ∙ sym (ap (λ x. cond x (at row b) (cell t a b)) s)))
   where
-    go : (s : Bool) → cell t a b ≡ cond s (cond (ltb b 0) (at row b) (cell t a b)) (cell t a b)
-    go true = sym (ap (λ s. cond s (at row b) (cell t a b)) (le-ltb b 0 (omega arith)))
-    go false = refl
+    behind : List ℕ
+    behind = drop k (drop (i * 64) t)
 
-pub put_next : (t row : List ℕ) (i k : ℕ) (r : List ℕ) → i * 64 + k < length r → k < 64 → Putting t row i k r
-    → Putting t row i (k + 1) (set r (i * 64 + k) (at row k))
-put_next t row i k r l kl h a b bl = by-eq a i
-    (λ e s. by-eq b k
-    (λ d u. subst (λ z. at (set r (i * 64 + k) (at row k)) z ≡ cond (eqb a i) (cond (ltb b (k + 1)) (at row b) (cell t a b)) (cell t a b)) (same e d)
-    (get_or-set_same r (i * 64 + k) (at row k) 0 l ∙ ap (at row) (sym d)
-    ∙ sym (ap₂ (λ x y. cond x (cond y (at row b) (cell t a b)) (cell t a b)) s (lt-ltb b (k + 1) (omega arith)))))
-    (λ n u. get_or-set_other r (i * 64 + k) (a * 64 + b) (at row k) 0 (λ q. n (omega arith)) ∙ h a b bl
-    ∙ ap (λ x. cond (eqb a i) (cond x (at row b) (cell t a b)) (cell t a b)) (other_than b k n)))
-    (λ n s. get_or-set_other r (i * 64 + k) (a * 64 + b) (at row k) 0 (λ q. n (omega arith)) ∙ h a b bl
-    ∙ ap (λ x. cond x (cond (ltb b k) (at row b) (cell t a b)) (cell t a b)) s
-    ∙ sym (ap (λ x. cond x (cond (ltb b (k + 1)) (at row b) (cell t a b)) (cell t a b)) s))
-  where
-    same : a ≡ i → b ≡ k → i * 64 + k ≡ a * 64 + b
-    same e d = omega arith
-
-pub put_end : (t row : List ℕ) (i k : ℕ) (r : List ℕ) → 64 ≤ k → Putting t row i k r → Put t row i r
-put_end t row i k r l h a b bl = h a b bl ∙ ap (λ x. cond (eqb a i) (cond x (at row b) (cell t a b)) (cell t a b)) (lt-ltb b k (omega arith))
+    front : length (take (i * 64) t) ≡ i * 64
+    front = length-take-le (i * 64) t (omega arith)
 
 -- ---- a table that is written row by row: it is whole, and the entries of its first i rows are as Q says
 pub record Written (n : ℕ) (Q : ℕ → ℕ → ℕ → Type 0) (t : List ℕ) (i : ℕ) : Type 0 where

@@ -18,7 +18,8 @@ ghost use Rattle.rival_tables.specs.Within.{if_below};
 use instance::Instance;
 use limits::ENTRY_LIMIT;
 
-// The links through the edges of each node: its first edge, and from each edge the next one there; the number of all edges where there is none.
+// The links through the edges of each node: its first edge, and from each edge the next one there; the number of all edges where there is none. No Options:
+// a link stays two bytes, and the one test that ends a walk is also the one that keeps it inside the arrays. Walks along links have no count to go by.
 #[derive(Drop)]
 pub struct NodeLinks {
     pub head: [u16; 32],
@@ -163,7 +164,6 @@ pub fn put_row(table: &mut [u8; 4096], row: &[u8; 64], i: usize)
     requires { (i < 64) × (length table.old ≡ 4096) }
     ensures { (length table.new ≡ 4096) × Put table.old row.now i table.new }
 {
-    for k in 0..64 {
-        table[i * 64 + k] = row[k];
-    }
+    let from = i * 64;
+    table[from..from + 64].copy_from_slice(&row[..]);
 }

@@ -42,7 +42,7 @@ fn tight(n: usize, arcs: &[u8; 4096], costs: &[u8; 4096], k: u8) -> [u8; 4096]
     o
 }
 
-// From each column of row i the next one that has an arc, 64 if there is none.
+// From each column of row i the next one that has an arc, 64 if there is none: a byte and no Option, as its one test ends the pass and keeps it inside the row.
 fn nexts_row(arcs: &[u8; 4096], i: usize) -> [u8; 64]
     requires { i < 64 }
     ensures { NextsRow (cell arcs.now i) (at result) }

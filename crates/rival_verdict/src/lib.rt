@@ -76,7 +76,8 @@ fn judged_by_arcs(
     arcs: &[u8; 4096],
     ends: &[u8; 4096],
 ) -> Judged
-    requires { (g.now.m ≤ entry_limit) × (plan.now.n ≤ plan_limit) × Low g.now.m g.now.sv node_limit × Low g.now.m g.now.st node_limit × Low plan.now.n plan.now.edges.now g.now.m
+    requires { (g.now.m ≤ entry_limit) × (plan.now.n ≤ plan_limit) × Low g.now.m g.now.sv node_limit × Low g.now.m g.now.st node_limit
+        × Low plan.now.n plan.now.edges.now g.now.m
         × Small plan.now.n arcs.now × Cheap plan.now.n arcs.now × SmallEnds plan.now.n ends.now
         × LinksOf g.now.m g.now.sv links_s.now × LinksOf g.now.m g.now.st links_t.now }
     ensures { RivalOn g.now.m g.now.sv g.now.st g.now.rank_s g.now.rank_t plan.now.has.now room.now.s
@@ -104,7 +105,8 @@ fn judged_by_tables(
     ps: &[u8; 64],
     pt: &[u8; 64],
 ) -> Judged
-    requires { (g.now.m ≤ entry_limit) × (plan.now.n ≤ plan_limit) × Low g.now.m g.now.sv node_limit × Low g.now.m g.now.st node_limit × Lists g.now.m plan.now.has.now plan.now.n plan.now.edges.now
+    requires { (g.now.m ≤ entry_limit) × (plan.now.n ≤ plan_limit) × Low g.now.m g.now.sv node_limit × Low g.now.m g.now.st node_limit
+        × Lists g.now.m plan.now.has.now plan.now.n plan.now.edges.now
         × NodesAt plan.now.n plan.now.edges.now g.now.sv g.now.st ps.now pt.now
         × Low plan_limit ps.now node_limit × Low plan_limit pt.now node_limit
         × LinksOf g.now.m g.now.sv links_s.now × LinksOf g.now.m g.now.st links_t.now
@@ -140,7 +142,8 @@ pub fn judged_on(
     ps: &[u8; 64],
     pt: &[u8; 64],
 ) -> Judged
-    requires { (g.now.m ≤ entry_limit) × (plan.now.n ≤ plan_limit) × Low g.now.m g.now.sv node_limit × Low g.now.m g.now.st node_limit × Lists g.now.m plan.now.has.now plan.now.n plan.now.edges.now
+    requires { (g.now.m ≤ entry_limit) × (plan.now.n ≤ plan_limit) × Low g.now.m g.now.sv node_limit × Low g.now.m g.now.st node_limit
+        × Lists g.now.m plan.now.has.now plan.now.n plan.now.edges.now
         × NodesAt plan.now.n plan.now.edges.now g.now.sv g.now.st ps.now pt.now
         × Low plan_limit ps.now node_limit × Low plan_limit pt.now node_limit }
     ensures { ShownFor g.now.m g.now.sv g.now.st g.now.rank_s g.now.rank_t plan.now.has.now plan.now.n ps.now
@@ -163,7 +166,8 @@ pub fn judged_on(
 
 // From the plan's list and the quotas.
 pub fn judge(g: &Instance, plan: &ListedPlan) -> Judged
-    requires { (g.now.m ≤ entry_limit) × (plan.now.n ≤ plan_limit) × Low g.now.m g.now.sv node_limit × Low g.now.m g.now.st node_limit × Lists g.now.m plan.now.has.now plan.now.n plan.now.edges.now }
+    requires { (g.now.m ≤ entry_limit) × (plan.now.n ≤ plan_limit) × Low g.now.m g.now.sv node_limit × Low g.now.m g.now.st node_limit
+        × Lists g.now.m plan.now.has.now plan.now.n plan.now.edges.now }
     ensures { RivalShown g.now.m g.now.sv g.now.st g.now.rank_s g.now.rank_t g.now.quota_s g.now.quota_t
         plan.now.has.now
         (verdict_for result.standing) result.rival }

@@ -151,7 +151,8 @@ pub fn walk(
     j: usize,
     start: Swap,
 ) -> Swap
-    requires { (g.now.m ≤ entry_limit) × (plan.now.n ≤ plan_limit) × Low plan.now.n plan.now.edges.now g.now.m × Small plan.now.n arcs.now × (l < 64) × (i < plan.now.n) × (j < plan.now.n)
+    requires { (g.now.m ≤ entry_limit) × (plan.now.n ≤ plan_limit) × Low plan.now.n plan.now.edges.now g.now.m × Small plan.now.n arcs.now × (l < 64)
+        × (i < plan.now.n) × (j < plan.now.n)
         × Low g.now.m g.now.st node_limit × LinksOf g.now.m g.now.st links_t.now }
     ensures { Walked start
         (walk_at (arc_edge g.now.m g.now.sv g.now.st g.now.rank_s g.now.rank_t plan.now.has.now) plan.now.edges.now

@@ -1,3 +1,4 @@
-pub mod Own
 pub mod Insert
+pub mod Insertion
 pub mod Kept
+pub mod Own

@@ -83,7 +83,8 @@ pub fn side_pairings(
 
 // The pairings of the vote of plan p, whose edges are the first pn of pe, against plan q, at the buffer's front.
 pub fn plan_pairings(g: &Instance, p: &ListedPlan, q: &ListedPlan, out: &mut [u8])
-    requires both_asked { BothAsked g.now.ns g.now.nt g.now.sv g.now.st g.now.rank_s g.now.rank_t g.now.quota_s g.now.quota_t p.now.has.now p.now.n p.now.edges.now q.now.has.now q.now.n q.now.edges.now }
+    requires both_asked { BothAsked g.now.ns g.now.nt g.now.sv g.now.st g.now.rank_s g.now.rank_t g.now.quota_s g.now.quota_t p.now.has.now p.now.n
+        p.now.edges.now q.now.has.now q.now.n q.now.edges.now }
     requires nt_in_bounds { 2 * (sum (at g.now.quota_s) (up_to g.now.ns) + sum (at g.now.quota_t) (up_to g.now.nt)) ≤ length out.old }
     ensures { PlanFaced g.now.ns g.now.nt g.now.sv g.now.st g.now.rank_s g.now.rank_t g.now.quota_s g.now.quota_t
         p.now.has.now p.now.n p.now.edges.now q.now.has.now q.now.n q.now.edges.now out.old out.new }
@@ -128,7 +129,8 @@ pub fn both_pairings(
     forward: &mut [u8],
     back: &mut [u8],
 )
-    requires both_asked { BothAsked g.now.ns g.now.nt g.now.sv g.now.st g.now.rank_s g.now.rank_t g.now.quota_s g.now.quota_t p.now.has.now p.now.n p.now.edges.now q.now.has.now q.now.n q.now.edges.now }
+    requires both_asked { BothAsked g.now.ns g.now.nt g.now.sv g.now.st g.now.rank_s g.now.rank_t g.now.quota_s g.now.quota_t p.now.has.now p.now.n
+        p.now.edges.now q.now.has.now q.now.n q.now.edges.now }
     requires nt_in_bounds { (2 * (sum (at g.now.quota_s) (up_to g.now.ns) + sum (at g.now.quota_t) (up_to g.now.nt)) ≤ length forward.old)
         × (2 * (sum (at g.now.quota_s) (up_to g.now.ns) + sum (at g.now.quota_t) (up_to g.now.nt)) ≤ length back.old) }
     ensures plan_faced { PlanFaced g.now.ns g.now.nt g.now.sv g.now.st g.now.rank_s g.now.rank_t g.now.quota_s g.now.quota_t

@@ -3,7 +3,7 @@ use Rattle.std.proofs.Common.{sym, ap, ◌∙◌, List, Bool, ℕ, ◌+◌, arit
 use lib.ListN.{length-replicate, get_or-replicate}
 use Rattle.arrays.specs.ArrayInstance.{at}
 use Rattle.rival_tables.specs.Cheapest.{offer}
-use Rattle.rival_tables.specs.Visits.{Passed, head_inside, next_onward, visit_first, visit_next}
+use Rattle.rival_tables.specs.Visits.{Passed, next_onward, visit_first, visit_next}
 use Rattle.theory_votes.specs.Score.{rate}
 use Rattle.rival_arcs.specs.Arcs.{arc_rest, arc_start, arc_end, arc_other, arc_past, arc_turn}
 use Rattle.rival_arcs.proofs.arc_row.Invariants.{Held}
@@ -68,13 +68,6 @@ returns c =
     (arc_end a.g.now.m a.g.now.sv st a.g.now.rank_s a.g.now.rank_t a.plan.now a.t a.b (at ps j) (at a.rps.now j) (at c.loop-f.o j) c.loop-f.f
     (omega arith))
     ∙ (c.loop-f.invariant.1 st ps L P).holds j h
-
-pub overflow_cast-f : goal.overflow_cast-f
-overflow_cast-f c = omega (arith, c.requires.0, head_inside c.requires.2.1 c.args.t c.requires.4)
-
-pub overflow_cast-f-in-loop-f : goal.overflow_cast-f-in-loop-f
-overflow_cast-f-in-loop-f c =
-    omega (arith, c.requires.0, next_onward c.requires.2.1 c.loop-f.f (omega arith))
 
 pub loop-f-smaller : goal.loop-f-smaller
 loop-f-smaller c =

@@ -3,7 +3,7 @@ use Rattle.std.proofs.Common.{◌≡◌, sym, ap, ap₂, ◌∙◌, List, ℕ, �
 use Rattle.lists.specs.Test.{eqb_yes, eqb_no}
 use Rattle.arrays.specs.ArrayInstance.{at}
 use Rattle.rival_tables.specs.Cheapest.{offer}
-use Rattle.rival_tables.specs.Visits.{Passed, head_inside, next_onward, visit_first, visit_next}
+use Rattle.rival_tables.specs.Visits.{Passed, next_onward, visit_first, visit_next}
 use Rattle.rival_tables.specs.Filled.{Remade, remade_start, remade_here, remade_next, remade_stay, remade_end}
 use Rattle.theory_votes.specs.Score.{rate}
 use Rattle.rival_arcs.proofs.joined.Invariants.{column}
@@ -52,13 +52,6 @@ returns c =
       λ ps L. remade_end a.row.now (column a.row.now ps a.rps.now a.s a.r a.a) c.loop-j.j c.loop-j.row (omega arith)
           (c.loop-j.invariant.1 ps L).holds,
     )
-
-pub overflow_cast-j : goal.overflow_cast-j
-overflow_cast-j c = omega (arith, head_inside c.requires.1.1 c.args.s c.requires.2)
-
-pub overflow_cast-j-in-loop-j : goal.overflow_cast-j-in-loop-j
-overflow_cast-j-in-loop-j c =
-    omega (arith, next_onward c.requires.1.1 c.loop-j.j (omega arith))
 
 pub loop-j-smaller : goal.loop-j-smaller
 loop-j-smaller c =

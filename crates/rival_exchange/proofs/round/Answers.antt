@@ -2,7 +2,7 @@
 use Rattle.std.proofs.Common.{refl, sym, ap, ap₂, ◌∙◌, List, Bool, not, ◌&&◌, ◌||◌, ltb, eqb, ℕ, ◌+◌, ◌<◌, arith}
 use Rattle.theory_verdict.specs.Ends.{Way}
 use Rattle.arrays.specs.ArrayInstance.{at}
-use Rattle.rival_tables.specs.Visits.{Passed, head_inside, next_onward, visit_first, visit_next}
+use Rattle.rival_tables.specs.Visits.{Passed, next_onward, visit_first, visit_next}
 use Rattle.rival_gains.specs.Gains.{gainable_here, gainable_other}
 use Rattle.rival_exchange.specs.declared.Ends.{Ends}
 use Rattle.rival_exchange.specs.Ways.{way_of, told, round_rest, round_begin, round_end, round_turn, round_past, apart_way}
@@ -15,15 +15,6 @@ others : (m : ℕ) (sv st rs rt : List ℕ) (x y : ℕ) (plan fs : List Bool) (s
 others m sv st rs rt x y plan fs s held whole d l n h =
     round_past m sv st rs rt x y plan fs s held d l (gainable_other st sv plan fs (at st y) d n) ∙ h
 
-pub overflow_cast-t : goal.overflow_cast-t
-overflow_cast-t c = omega (arith, c.requires.2 c.args.y c.requires.5)
-
-pub offset_bounds-links_t-t : goal.offset_bounds-links_t-t
-offset_bounds-links_t-t c = omega (arith, c.requires.2 c.args.y c.requires.5)
-
-pub bounds-links_t-t : goal.bounds-links_t-t
-bounds-links_t-t c = omega (arith, c.requires.2 c.args.y c.requires.5)
-
 pub loop-d-init : goal.loop-d-init
 loop-d-init c rs B =
     let a = c.args in
@@ -33,13 +24,6 @@ loop-d-init c rs B =
     visit_first c.requires.3 (at a.g.now.st a.y) (Held a.g.now.m a.g.now.sv a.g.now.st rs a.g.now.rank_t a.x a.y a.plan.now
     a.room.now.s w o whole) (others a.g.now.m a.g.now.sv a.g.now.st rs a.g.now.rank_t a.x a.y a.plan.now a.room.now.s w o whole)
     (c.requires.2 a.y c.requires.5) refl
-
-pub overflow_cast-v : goal.overflow_cast-v
-overflow_cast-v c = omega (arith, c.requires.1 c.loop-d.d (omega arith))
-
-pub bounds-room-v : goal.bounds-room-v
-bounds-room-v c =
-    omega (arith, c.requires.1 c.loop-d.d (omega arith))
 
 pub loop-d-preserved : goal.loop-d-preserved
 loop-d-preserved c rs B =
@@ -81,14 +65,6 @@ returns c rs B =
     ∙ round_begin a.g.now.m a.g.now.sv a.g.now.st rs a.g.now.rank_t a.x a.y a.plan.now a.room.now.s (way_of a.g.now.m a.start)
     (told a.g.now.m a.held) (told a.g.now.m o.result) a.free a.a B
     (o.ensures a.g.now.m)
-
-pub overflow_cast-d : goal.overflow_cast-d
-overflow_cast-d c =
-    omega (arith, c.requires.0, head_inside c.requires.3 (at c.args.g.now.st c.args.y) (c.requires.2 c.args.y c.requires.5))
-
-pub overflow_cast-d-in-loop-d : goal.overflow_cast-d-in-loop-d
-overflow_cast-d-in-loop-d c =
-    omega (arith, c.requires.0, next_onward c.requires.3 c.loop-d.d c.loop-d-test.true)
 
 pub loop-d-smaller : goal.loop-d-smaller
 loop-d-smaller c =

@@ -2,7 +2,7 @@
 use Rattle.std.proofs.Common.{sym, ap, ap₂, ◌∙◌, List, Bool, ℕ, ◌+◌, ◌<◌, arith}
 use Rattle.theory_verdict.specs.Ends.{Way}
 use Rattle.arrays.specs.ArrayInstance.{at}
-use Rattle.rival_tables.specs.Visits.{Passed, head_inside, next_onward, visit_first, visit_next}
+use Rattle.rival_tables.specs.Visits.{Passed, next_onward, visit_first, visit_next}
 use Rattle.rival_gains.specs.Gains.{gainable_here, gainable_other}
 use Rattle.rival_exchange.specs.declared.Ends.{Ends}
 use Rattle.rival_exchange.specs.Ways.{told, way_gain, way_lose, begun_lost, begun_gain, round, terminal_rest, terminal_start, terminal_end, terminal_turn, terminal_past}
@@ -14,9 +14,6 @@ others : (m : ℕ) (sv st rs rt : List ℕ) (x y : ℕ) (plan fs ft : List Bool)
     → Passed m sv (at sv x) (Held m sv st rs rt x y plan fs ft held)
 others m sv st rs rt x y plan fs ft held d l n h =
     sym (terminal_past m sv st rs rt x y plan fs ft held d l (gainable_other sv st plan ft (at sv x) d n)) ∙ h
-
-pub overflow_cast-s : goal.overflow_cast-s
-overflow_cast-s c = omega (arith, c.requires.1 c.args.x c.requires.5)
 
 pub round-o-requires : goal.round-o-requires
 round-o-requires c =
@@ -31,12 +28,6 @@ round-o-requires c =
       (a.g.now.rank_s, begun_lost a.g.now.m a.g.now.sv a.g.now.st a.g.now.rank_s a.g.now.rank_t a.x a.y),
     )
 
-pub offset_bounds-links_s-s : goal.offset_bounds-links_s-s
-offset_bounds-links_s-s c = omega (arith, c.requires.1 c.args.x c.requires.5)
-
-pub bounds-links_s-s : goal.bounds-links_s-s
-bounds-links_s-s c = omega (arith, c.requires.1 c.args.x c.requires.5)
-
 pub loop-f-init : goal.loop-f-init
 loop-f-init c =
     let a = c.args in
@@ -49,13 +40,6 @@ loop-f-init c =
     (λ u w. round a.g.now.m a.g.now.sv a.g.now.st a.g.now.rank_s a.g.now.rank_t a.x a.y a.plan.now a.room.now.s u (6, (w, w))) (way_lose a.g.now.m)
     (way_lose a.g.now.m))
     ∙ terminal_start a.g.now.m a.g.now.sv a.g.now.st a.g.now.rank_s a.g.now.rank_t a.x a.y a.plan.now a.room.now.s a.room.now.t)
-
-pub overflow_cast-v : goal.overflow_cast-v
-overflow_cast-v c = omega (arith, c.requires.2 c.loop-f.f (omega arith))
-
-pub bounds-room-v : goal.bounds-room-v
-bounds-room-v c =
-    omega (arith, c.requires.2 c.loop-f.f (omega arith))
 
 pub round-next-requires : goal.round-next-requires
 round-next-requires c =
@@ -111,14 +95,6 @@ returns c =
     let a = c.args in
     sym (terminal_end a.g.now.m a.g.now.sv a.g.now.st a.g.now.rank_s a.g.now.rank_t a.x a.y a.plan.now a.room.now.s a.room.now.t
     (told a.g.now.m c.loop-f.o) c.loop-f.f (omega arith)) ∙ c.loop-f.invariant.holds
-
-pub overflow_cast-f : goal.overflow_cast-f
-overflow_cast-f c =
-    omega (arith, c.requires.0, head_inside c.requires.3 (at c.args.g.now.sv c.args.x) (c.requires.1 c.args.x c.requires.5))
-
-pub overflow_cast-f-in-loop-f : goal.overflow_cast-f-in-loop-f
-overflow_cast-f-in-loop-f c =
-    omega (arith, c.requires.0, next_onward c.requires.3 c.loop-f.f c.loop-f-test.true)
 
 pub loop-f-smaller : goal.loop-f-smaller
 loop-f-smaller c =

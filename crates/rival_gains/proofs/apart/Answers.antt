@@ -13,8 +13,8 @@ returns-then-is_none c =
     let a = c.args in
     λ end L i j h k. get_or-replicate 4096 (i * 64 + j) 3 0 (omega (arith, c.requires.3, h, k))
     ∙ sym
-    (but_none a.m end a.other.now a.rank.now a.plan.now a.room.now c.requires.1
-    (none_is_below 32 (low (flag a.room.now) 32) c.if-is_none.ensures c.first_room.ensures) 3
+    (but_none a.side.now.m end a.side.now.other.now a.side.now.rank.now a.side.now.plan.now a.side.now.room.now c.requires.1
+    (none_is_below 32 (low (flag a.side.now.room.now) 32) c.if-is_none.ensures c.first_room.ensures) 3
     (at a.pe.now i) (at a.pr.now i) (at a.po.now j))
 
 pub apart_row-row-requires : goal.apart_row-row-requires

@@ -6,7 +6,7 @@ use Rattle.rival_tables.specs.Cheapest.{offer}
 use Rattle.rival_tables.specs.Visits.{Passed, head_inside, next_onward, visit_first, visit_next}
 use Rattle.rival_gains.specs.Gains.{gainable_other, gainable_here, gain_rest_but, but_start, but_end, but_past, but_turn}
 use Rattle.rival_gains.proofs.apart_row.Invariants.{Held}
-use Rattle.rival_gains.proofs.apart_row.Goals.{else-plan-f, then-plan-f}
+use Rattle.rival_gains.proofs.apart_row.Goals.{else-side-f, then-side-f}
 use Rattle.rival_gains.proofs.apart_row.Goals as goal
 
 others : (m : ℕ) (end other rank : List ℕ) (plan room : List Bool) (po : List ℕ) (e b : ℕ) (o : List ℕ)
@@ -20,18 +20,18 @@ loop-f-init c =
     let row : List ℕ = replicate 64 3 in (
       length-replicate {A = ℕ} 64 3,
       λ end L. visit_first L a.e
-          (Held a.m end a.other.now a.rank.now a.plan.now a.room.now a.po.now a.e a.b row)
-          (others a.m end a.other.now a.rank.now a.plan.now a.room.now a.po.now a.e a.b row) c.requires.3
-          (λ j h. ap (λ v. gain_rest_but a.m end a.other.now a.rank.now a.plan.now a.room.now a.e a.b
+          (Held a.side.now.m end a.side.now.other.now a.side.now.rank.now a.side.now.plan.now a.side.now.room.now a.po.now a.e a.b row)
+          (others a.side.now.m end a.side.now.other.now a.side.now.rank.now a.side.now.plan.now a.side.now.room.now a.po.now a.e a.b row) c.requires.3
+          (λ j h. ap (λ v. gain_rest_but a.side.now.m end a.side.now.other.now a.side.now.rank.now a.side.now.plan.now a.side.now.room.now a.e a.b
           (at a.po.now j) v 0) (get_or-replicate 64 j 3 0 h)
-          ∙ but_start a.m end a.other.now a.rank.now a.plan.now a.room.now a.e a.b (at a.po.now j) 3),
+          ∙ but_start a.side.now.m end a.side.now.other.now a.side.now.rank.now a.side.now.plan.now a.side.now.room.now a.e a.b (at a.po.now j) 3),
     )
 
 pub overflow_cast-v : goal.overflow_cast-v
 overflow_cast-v c = omega (arith, c.requires.1 c.loop-f.f (omega arith))
 
-pub bounds-room-v : goal.bounds-room-v
-bounds-room-v c = omega (arith, c.requires.1 c.loop-f.f (omega arith))
+pub bounds-side-v : goal.bounds-side-v
+bounds-side-v c = omega (arith, c.requires.1 c.loop-f.f (omega arith))
 
 pub parted-requires : goal.parted-requires
 parted-requires c = c.loop-f.invariant.0
@@ -40,37 +40,37 @@ pub loop-f-preserved : goal.loop-f-preserved
 loop-f-preserved c =
     let a = c.args in
     let f = c.loop-f.f in
-    let k : f < a.m = c.loop-f-test.true in
-    let o : List ℕ = c.if-plan-f.o in (
-      elim c.if-plan-f.branch [
-        | then-plan-f w ↦ ap length w.o-is ∙ w.parted.ensures.0
-        | else-plan-f w ↦ ap length w.o-is ∙ c.loop-f.invariant.0
+    let k : f < a.side.now.m = c.loop-f-test.true in
+    let o : List ℕ = c.if-side-f.o in (
+      elim c.if-side-f.branch [
+        | then-side-f w ↦ ap length w.o-is ∙ w.parted.ensures.0
+        | else-side-f w ↦ ap length w.o-is ∙ c.loop-f.invariant.0
       ],
       λ end L.
           let G = c.loop-f.invariant.1 end L in
           let here = G.here k in
-          let is = gainable_here end a.other.now a.plan.now a.room.now a.e f here in
+          let is = gainable_here end a.side.now.other.now a.side.now.plan.now a.side.now.room.now a.e f here in
           visit_next L a.e
-          (Held a.m end a.other.now a.rank.now a.plan.now a.room.now a.po.now a.e a.b o)
-          (others a.m end a.other.now a.rank.now a.plan.now a.room.now a.po.now a.e a.b o) f k here
-          (λ j h. elim c.if-plan-f.branch [
-            | then-plan-f w ↦ ap (λ v. gain_rest_but a.m end a.other.now a.rank.now a.plan.now a.room.now a.e a.b (at a.po.now j) v
+          (Held a.side.now.m end a.side.now.other.now a.side.now.rank.now a.side.now.plan.now a.side.now.room.now a.po.now a.e a.b o)
+          (others a.side.now.m end a.side.now.other.now a.side.now.rank.now a.side.now.plan.now a.side.now.room.now a.po.now a.e a.b o) f k here
+          (λ j h. elim c.if-side-f.branch [
+            | then-side-f w ↦ ap (λ v. gain_rest_but a.side.now.m end a.side.now.other.now a.side.now.rank.now a.side.now.plan.now a.side.now.room.now a.e a.b (at a.po.now j) v
                 (f + 1))
                 (ap (λ z. at z j) w.o-is ∙ w.parted.ensures.1 j h
-                ∙ ap (λ p. offer (not (eqb (at a.other.now f) (at a.po.now j))) p (at c.loop-f.o j)) w.rated-p.ensures.0)
-                ∙ sym (but_turn a.m end a.other.now a.rank.now a.plan.now a.room.now a.e a.b (at a.po.now j)
-                (at c.loop-f.o j) f k (is ∙ w.if-plan-f.true)) ∙ G.holds j h
-            | else-plan-f w ↦ ap (λ z. gain_rest_but a.m end a.other.now a.rank.now a.plan.now a.room.now a.e a.b (at a.po.now j)
+                ∙ ap (λ p. offer (not (eqb (at a.side.now.other.now f) (at a.po.now j))) p (at c.loop-f.o j)) w.rated-p.ensures.0)
+                ∙ sym (but_turn a.side.now.m end a.side.now.other.now a.side.now.rank.now a.side.now.plan.now a.side.now.room.now a.e a.b (at a.po.now j)
+                (at c.loop-f.o j) f k (is ∙ w.if-side-f.true)) ∙ G.holds j h
+            | else-side-f w ↦ ap (λ z. gain_rest_but a.side.now.m end a.side.now.other.now a.side.now.rank.now a.side.now.plan.now a.side.now.room.now a.e a.b (at a.po.now j)
                 (at z j) (f + 1)) w.o-is
-                ∙ sym (but_past a.m end a.other.now a.rank.now a.plan.now a.room.now a.e a.b (at a.po.now j)
-                (at c.loop-f.o j) f k (is ∙ w.if-plan-f.false)) ∙ G.holds j h
+                ∙ sym (but_past a.side.now.m end a.side.now.other.now a.side.now.rank.now a.side.now.plan.now a.side.now.room.now a.e a.b (at a.po.now j)
+                (at c.loop-f.o j) f k (is ∙ w.if-side-f.false)) ∙ G.holds j h
           ]),
     )
 
 pub returns : goal.returns
 returns c =
     let a = c.args in
-    λ end L j h. sym (but_end a.m end a.other.now a.rank.now a.plan.now a.room.now a.e a.b (at a.po.now j)
+    λ end L j h. sym (but_end a.side.now.m end a.side.now.other.now a.side.now.rank.now a.side.now.plan.now a.side.now.room.now a.e a.b (at a.po.now j)
     (at c.loop-f.o j) c.loop-f.f (omega arith)) ∙ (c.loop-f.invariant.1 end L).holds j h
 
 pub overflow_cast-f : goal.overflow_cast-f

@@ -13,8 +13,8 @@ returns-then-is_none c =
     let a = c.args in
     λ end L i h. get_or-replicate 64 i 6 0 (omega (arith, c.requires.3, h))
     ∙ sym
-    (gain_none a.m end a.other.now a.rank.now a.plan.now a.room.now c.requires.1
-    (none_is_below 32 (low (flag a.room.now) 32) c.if-is_none.ensures c.first_room.ensures) 6
+    (gain_none a.side.now.m end a.side.now.other.now a.side.now.rank.now a.side.now.plan.now a.side.now.room.now c.requires.1
+    (none_is_below 32 (low (flag a.side.now.room.now) 32) c.if-is_none.ensures c.first_room.ensures) 6
     (at a.pe.now i) (at a.pr.now i))
 
 pub loop-i-init : goal.loop-i-init
@@ -30,7 +30,7 @@ loop-i-preserved c =
       omega arith,
       simp length-set c.loop-i.invariant.1,
       λ end L. made_set 0 c.loop-i.o
-          (λ i. gain_price a.m end a.other.now a.rank.now a.plan.now a.room.now 6 (at a.pe.now i) (at a.pr.now i))
+          (λ i. gain_price a.side.now.m end a.side.now.other.now a.side.now.rank.now a.side.now.plan.now a.side.now.room.now 6 (at a.pe.now i) (at a.pr.now i))
           c.loop-i.i c.least_rates-r.result.all (omega arith) (c.least_rates-r.ensures end L).0 (c.loop-i.invariant.2 end L),
     )
 

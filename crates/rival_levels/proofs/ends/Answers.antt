@@ -20,9 +20,6 @@ pub loop-j-init : goal.loop-j-init
 unfolding low
 loop-j-init c = (zero-le, refl)
 
-pub overflow_add-d : goal.overflow_add-d
-overflow_add-d c = omega (arith, c.requires.2 c.loop-j.j (omega arith))
-
 pub returns-then-d-b : goal.returns-then-d-b
 returns-then-d-b c =
     let a = c.args in

@@ -7,9 +7,6 @@ use Rattle.rival_levels.proofs.least_end.Goals as goal
 pub loop-j-init : goal.loop-j-init
 loop-j-init c = (zero-le, λ e h. absurd (not-suc-le-zero h))
 
-pub overflow_add-d : goal.overflow_add-d
-overflow_add-d c = omega (arith, c.requires.2 c.loop-j.j (omega arith))
-
 pub loop-j-preserved : goal.loop-j-preserved
 loop-j-preserved c =
     let a = c.args in (

@@ -9,9 +9,6 @@ loop-j-init c =
     let a = c.args in
     (zero-le, c.requires.0, remade_start a.row.now (λ k. min (a.a + at a.d.now (a.b + k)) (at a.row.now k)))
 
-pub overflow_add-a : goal.overflow_add-a
-overflow_add-a c = omega (arith, c.requires.2 c.loop-j.j (omega arith))
-
 pub loop-j-preserved : goal.loop-j-preserved
 loop-j-preserved c =
     let a = c.args in

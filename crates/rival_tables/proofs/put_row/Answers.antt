@@ -1,20 +1,15 @@
--- The first k columns of the row are written.
-use Rattle.std.proofs.Common.{zero-le, arith, length-set}
-use Rattle.rival_tables.specs.Filled.{put_start, put_next, put_end}
+-- The row is written.
+use Rattle.std.proofs.Common.{◌≡◌, ◌-◌, ◌+◌, ◌*◌, arith, sym, subst, ◌∙◌}
+use borrow.Rule.Slice.PartMut.{put_mid, same_len_mid}
+use Rattle.rival_tables.specs.Filled.{Put, put_part}
 use Rattle.rival_tables.proofs.put_row.Goals as goal
-
-pub loop-k-init : goal.loop-k-init
-loop-k-init c = (zero-le, c.requires.1, put_start c.args.table.now c.args.row.now c.args.i)
-
-pub loop-k-preserved : goal.loop-k-preserved
-loop-k-preserved c =
-    let a = c.args in (
-      omega arith,
-      simp length-set c.loop-k.invariant.1,
-      put_next a.table.now a.row.now a.i c.loop-k.k c.loop-k.table (omega arith) (omega arith) c.loop-k.invariant.2,
-    )
 
 pub returns : goal.returns
 returns c =
     let a = c.args in
-    (c.loop-k.invariant.1, put_end a.table.now a.row.now a.i c.loop-k.k c.loop-k.table (omega arith) c.loop-k.invariant.2)
+    let k = a.i * 64 + 64 - a.i * 64 in
+    let few : k ≡ 64 = omega arith in (
+      same_len_mid (a.i * 64) k a.table.now c.copy_from_slice.new.self c.copy_from_slice.ensures.len ∙ c.requires.1,
+      subst (λ ys. Put a.table.now a.row.now a.i (put_mid (a.i * 64) k a.table.now ys)) (sym c.copy_from_slice.ensures.after)
+          (put_part a.table.now a.row.now a.i k c.requires.0 c.requires.1 c.told-row few),
+    )

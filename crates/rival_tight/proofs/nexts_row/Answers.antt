@@ -13,9 +13,6 @@ loop-y-init c = record {
   nexts = λ x h g. absurd (omega arith);
 }
 
-pub bounds-o-y : goal.bounds-o-y
-bounds-o-y c = omega (arith, c.loop-y.invariant.within, c.loop-y.invariant.whole)
-
 pub loop-y-preserved-then-arcs-i-lt133 : goal.loop-y-preserved-then-arcs-i-lt133
 loop-y-preserved-then-arcs-i-lt133 c = behind_arc c.loop-y.invariant c.loop-y-test.true
 

@@ -13,14 +13,6 @@ lower-requires c =
     let y = c.loop-y.y in
     (c.loop-y.invariant.whole, omega arith, (λ j h. c.requires.2 y j (omega arith) h), c.requires.3 c.args.i y (omega arith) (omega arith) c.if-a-lt133.true)
 
-pub loop-y-smaller : goal.loop-y-smaller
-loop-y-smaller c =
-    omega (arith, (c.requires.4 c.args.i c.loop-y.y (omega arith) (omega arith)).0)
-
-pub overflow_cast-y : goal.overflow_cast-y
-overflow_cast-y c =
-    omega (arith, (c.requires.4 c.args.i c.loop-y.y (omega arith) (omega arith)).1)
-
 pub loop-y-preserved : goal.loop-y-preserved
 loop-y-preserved c =
     let a = c.args in

@@ -14,9 +14,6 @@ returns-then-costs-i c =
 pub loop-j-init : goal.loop-j-init
 loop-j-init c = (zero-le, refl, λ e h. absurd (not-suc-le-zero h))
 
-pub overflow_sub-k : goal.overflow_sub-k
-overflow_sub-k c = omega (arith, c.min-back.ensures)
-
 pub loop-j-preserved : goal.loop-j-preserved
 loop-j-preserved c =
     let a = c.args in

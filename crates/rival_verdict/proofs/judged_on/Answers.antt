@@ -1,5 +1,5 @@
 -- An edge with room at both ends was found; or the links are made, and the tables decide.
-use Rattle.std.proofs.Common.{◌≡◌, false, arith, length, replicate, rules}
+use Rattle.std.proofs.Common.{false, replicate}
 use Rattle.lists.specs.Search.{low}
 use Rattle.rival_tables.specs.Within.{found_below, nothing_below}
 use Rattle.rival_search.specs.SearchView.{free_at}

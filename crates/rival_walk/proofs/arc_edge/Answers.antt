@@ -1,7 +1,7 @@
 -- The best of the edges from f on and of what is held is the best of all; f is an edge of the stand of x.
 use Rattle.std.proofs.Common.{◌≡◌, refl, sym, ap, ap₂, ◌∙◌, List, Bool, true, false, ◌&&◌, ℕ, ◌+◌, ◌<◌, arith, ltb}
 use Rattle.arrays.specs.ArrayInstance.{at}
-use Rattle.rival_tables.specs.Visits.{Passed, head_inside, next_onward, visit_first, visit_next}
+use Rattle.rival_tables.specs.Visits.{Passed, next_onward, visit_first, visit_next}
 use Rattle.rival_walk.specs.Edges.{edge_price, edge_rest, joins_other, joins_here, edge_start, edge_end, edge_turn}
 use Rattle.rival_walk.proofs.arc_edge.Invariants.{Held}
 use Rattle.rival_walk.proofs.arc_edge.Goals.{else-plan-f, then-plan-f}
@@ -14,15 +14,6 @@ others m sv st rs rt plan x z v o d l n h =
     (edge_turn m sv st rs rt plan x z false v o d (edge_price m sv st rs rt plan x z d) l refl
     (ap (λ b. b && ltb (edge_price m sv st rs rt plan x z d) v) (joins_other m sv st rs rt plan x z d n))))
     ∙ h
-
-pub overflow_cast-t : goal.overflow_cast-t
-overflow_cast-t c = omega (arith, c.requires.3 c.args.x c.requires.1)
-
-pub offset_bounds-links_t-t : goal.offset_bounds-links_t-t
-offset_bounds-links_t-t c = omega (arith, c.requires.3 c.args.x c.requires.1)
-
-pub bounds-links_t-t : goal.bounds-links_t-t
-bounds-links_t-t c = omega (arith, c.requires.3 c.args.x c.requires.1)
 
 pub loop-f-init : goal.loop-f-init
 loop-f-init c =
@@ -71,14 +62,6 @@ returns c =
           c.loop-f.f (omega arith))) ∙ c.loop-f.invariant.1.holds,
       c.loop-f.invariant.0,
     )
-
-pub overflow_cast-f : goal.overflow_cast-f
-overflow_cast-f c =
-    omega (arith, c.requires.0, head_inside c.requires.4 (at c.args.g.now.st c.args.x) (c.requires.3 c.args.x c.requires.1))
-
-pub overflow_cast-f-in-loop-f : goal.overflow_cast-f-in-loop-f
-overflow_cast-f-in-loop-f c =
-    omega (arith, c.requires.0, next_onward c.requires.4 c.loop-f.f c.loop-f-test.true)
 
 pub loop-f-smaller : goal.loop-f-smaller
 loop-f-smaller c =

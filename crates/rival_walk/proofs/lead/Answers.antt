@@ -19,9 +19,6 @@ overflow_cast-s c =
           (omega arith) (omega arith),
     )
 
-pub overflow_cast-s-in-loop-y : goal.overflow_cast-s-in-loop-y
-overflow_cast-s-in-loop-y c = omega (arith, c.requires.4 c.loop-y.y (omega arith))
-
 pub overflow_add-s-in-loop-y-2 : goal.overflow_add-s-in-loop-y-2
 overflow_add-s-in-loop-y-2 c =
     let y = c.loop-y.y in
@@ -63,6 +60,3 @@ returns c =
     let q : ◌≡◌ {A = ℕ × ℕ} (c.loop-y.v, p) (lead_at a.arcs.now a.n (cell a.table.now a.k) a.i) =
     sym (lead_end a.arcs.now a.n (cell a.table.now a.k) a.i (c.loop-y.v, p) c.loop-y.y (omega arith)) ∙ e in
     (ap (λ (r : ℕ × ℕ). r.0) q, same ∙ ap (λ (r : ℕ × ℕ). if_below a.n r.1) q)
-
-pub overflow_add-table : goal.overflow_add-table
-overflow_add-table c = omega (arith, c.requires.4 c.args.i c.requires.1)

@@ -38,6 +38,3 @@ pub returns : goal.returns
 returns c =
     let a = c.args in
     sym (price_end a.arcs.now a.n (cell a.table.now a.k) a.i c.loop-y.v c.loop-y.y (omega arith)) ∙ c.loop-y.invariant.2
-
-pub overflow_add-table : goal.overflow_add-table
-overflow_add-table c = omega (arith, c.requires.3 c.args.i c.requires.1)

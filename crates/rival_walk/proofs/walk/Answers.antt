@@ -50,10 +50,6 @@ lead-requires c =
       ),
     )
 
-pub overflow_cast-x : goal.overflow_cast-x
-overflow_cast-x c =
-    omega (arith, c.requires.2 c.loop-k.c c.loop-k.invariant.1)
-
 -- what the table tells is what the walk goes by
 is_ahead : (c : After-lead) → let a = c.args in Column a.arcs.now a.plan.now.n a.j (a.l - 1) c.columns-table.result
     → (lead_at a.arcs.now a.plan.now.n (cell c.columns-table.result (c.loop-k.k - 1)) c.loop-k.c).1
@@ -115,20 +111,9 @@ loop-k-preserved c =
           _ _ (nothing_below a.plan.now.n y c.in_default.is c.lead.ensures.1) refl refl refl,
     )
 
-pub overflow_cast-x-2 : goal.overflow_cast-x-2
-overflow_cast-x-2 c = omega (arith, c.requires.2 c.loop-k.c c.loop-k.invariant.1)
-
-pub overflow_cast-z-2 : goal.overflow_cast-z-2
-overflow_cast-z-2 c =
-    omega (arith, c.requires.2 c.args.j c.requires.6)
-
 pub arc_edge-f-requires-2 : goal.arc_edge-f-requires-2
 arc_edge-f-requires-2 c =
     (c.requires.0, c.requires.2 c.loop-k.c c.loop-k.invariant.1, c.requires.2 c.args.j c.requires.6, c.requires.7, c.requires.8)
-
-pub bounds-gone-z-2 : goal.bounds-gone-z-2
-bounds-gone-z-2 c =
-    omega (arith, c.requires.2 c.args.j c.requires.6)
 
 pub returns : goal.returns
 returns c =
