@@ -240,8 +240,7 @@ module _ (s : List Step) (l p v : List ℕ) where
     )
     by_outcome (accepted R) e false q steps m k w =
         let f = k.finds in
-        let D = diary_here R steps f k.steps w in
-        (
+        let D = diary_here R steps f k.steps w in (
           found_reply R e k.answer f D (state_here (accepted R) e false q ∙ states (held_of d) call tt tt),
           λ R' a t. subst (λ Q. PromiseOf Q ans (records_in s) l p v (records_in s') l' p' v') (one (sym e ∙ a)) (promised_here R e k.answer f D),
           k.lengths ∙ lengths_held d R e (finding_shown k.found) ∙ ap (λ a. lengths_on (held_of d) (found_shown a)) (sym k.answer)

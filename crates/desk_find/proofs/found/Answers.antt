@@ -11,8 +11,7 @@ returns-in-Err c =
 pub worked-requires : goal.worked-requires
 worked-requires c =
     let a = c.args in
-    let long = long_enough _ _ a.room a.left.now a.plan.now a.rival.now c.finder_short-short.ensures _ c.loaded.ensures c.in-Ok.is in
-    (
+    let long = long_enough _ _ a.room a.left.now a.plan.now a.rival.now c.finder_short-short.ensures _ c.loaded.ensures c.in-Ok.is in (
       loaded_arrays _ _ a.room a.left.now a.plan.now a.rival.now c.finder_short-short.ensures _ c.loaded.ensures c.in-Ok.is,
       long.0,
       long.1,
