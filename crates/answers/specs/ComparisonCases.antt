@@ -12,6 +12,7 @@ use Rattle.answers.specs.declared.Comparison.{Comparison}
 use Rattle.answers.specs.declared.Refusal.{Refusal}
 use Rattle.answers.specs.RefusalCases.{number_of}
 
+-- who wins, in the words of the model's comparison
 abbrev pub winner_shown : Winner → compare.Winner
 winner_shown First = compare.first
 winner_shown Second = compare.second

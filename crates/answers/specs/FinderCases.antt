@@ -47,11 +47,12 @@ finding_shown_law (found.None n k) = ap (found.None n) (kind_shown_law k)
 pub shows_finding : (a : Found) {m : model.Answer model.finds} → finding_shown a ≡ m → a ≡ finding_case m
 shows_finding a e = sym (finding_shown_law a) ∙ ap finding_case e
 
--- what is found is no refusal
+-- the number of a refusal, one up; 0 for none
 abbrev number_in : model.Answer model.finds → ℕ
 number_in (model.refused n g) = suc n
 number_in (model.said x) = 0
 
+-- what is found is no refusal
 pub finding_not {ℓ} : {C : Type ℓ} (a : Found) {n : ℕ} → finding_shown a ≡ model.refusal n → C
 finding_not (found.Plan k) e = absurd (let z : ⊥ = omega (arith, ap number_in e) in z)
 finding_not (found.None k w) e = absurd (let z : ⊥ = omega (arith, ap number_in e) in z)

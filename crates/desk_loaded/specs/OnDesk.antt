@@ -61,6 +61,7 @@ pub record NotLoaded (roster plan : List ℕ) (needs short : Bool) (e : Refusal)
   pub fitting : (R : Roster) → read_roster roster ≡ accepted R → T (fits R)
   pub within : (R : Roster) (M : Plan) → read_roster roster ≡ accepted R → read_plan (instance_of R) plan ≡ accepted M → M ∈ plans_of (instance_of R)
 
+-- what a call has to work on, from the bytes of a roster and of a plan, or the state's refusal
 abbrev pub LoadedAs : (roster plan : List ℕ) → (needs short : Bool) → Result OnDesk Refusal → Type 0
 LoadedAs roster plan needs short (Ok r) = LoadedFrom roster plan needs short 0 r
 LoadedAs roster plan needs short (Err e) = NotLoaded roster plan needs short e

@@ -120,6 +120,7 @@ pub record SizedL (lates latet : List (List ℕ)) (loose olds oldt : List Bool) 
 abbrev pub later_of : LateNumbers → Later
 later_of x = later x.surveyors x.stands x.loose x.due.surveyors x.due.stands
 
+-- the arrays of the late numbers have their sizes
 abbrev pub SizedLate : LateNumbers → Type 0
 SizedLate x = SizedL x.surveyors x.stands x.loose x.due.surveyors x.due.stands
 

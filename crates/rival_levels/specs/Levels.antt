@@ -70,6 +70,7 @@ none_place f terminals n bound h e =
     (λ t. let q : ◌≡◌ {A = Option Place} None (Some w) = sym h ∙ e ∙ ap (λ (b : Bool). cond b (Some w) None) t in cc)
     (λ t. ltb-false r n t)
 
+-- where it is asked only whether there is such a place: none, so no row is below n
 pub none_is_place : {o : Option Place} (f : ℕ → ℕ → ℕ) (terminals : List ℕ) (n bound : ℕ) → is_some o ≡ false → o ≡ place_at f terminals n bound
     → n ≤ pair_at f terminals n bound
 none_is_place f terminals n bound h e =

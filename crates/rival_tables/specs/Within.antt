@@ -11,6 +11,7 @@ if_below n i = cond (ltb i n) (Some i) None
 pub some_below : (n i j : ℕ) → i ≡ j → i < n → Some i ≡ if_below n j
 some_below n i j e h = ap Some e ∙ sym (ap (λ b. cond b (Some j) None) (ap (λ k. ltb k n) (sym e) ∙ lt-ltb i n h))
 
+-- none
 pub none_below : (n j : ℕ) → n ≤ j → None ≡ if_below n j
 none_below n j h = sym (ap (λ b. cond b (Some j) None) (le-ltb j n h))
 
@@ -20,6 +21,7 @@ found_below n i j h e = by_bool (ltb j n)
     (λ t. let q : Some i ≡ Some j = sym h ∙ e ∙ ap (λ b. cond b (Some j) None) t in let s : i ≡ j = cc in (s, omega (arith, ltb-true j n t)))
     (λ t. let q : Some i ≡ None = sym h ∙ e ∙ ap (λ b. cond b (Some j) None) t in cc)
 
+-- nothing was found: what is searched is not below n
 pub nothing_below : {o : Option ℕ} (n j : ℕ) → o ≡ None → o ≡ if_below n j → n ≤ j
 nothing_below n j h e = by_bool (ltb j n)
     (λ t. let q : None ≡ Some j = sym h ∙ e ∙ ap (λ b. cond b (Some j) None) t in cc)
@@ -31,6 +33,7 @@ some_is_below n j h e = by_bool (ltb j n)
     (λ t. ltb-true j n t)
     (λ t. let q : false ≡ true = sym (ap is_some (e ∙ ap (λ b. cond b (Some j) None) t)) ∙ h in cc)
 
+-- it is not there: what is searched is not below n
 pub none_is_below : {o : Option ℕ} (n j : ℕ) → is_some o ≡ false → o ≡ if_below n j → n ≤ j
 none_is_below n j h e = by_bool (ltb j n)
     (λ t. let q : true ≡ false = sym (ap is_some (e ∙ ap (λ b. cond b (Some j) None) t)) ∙ h in cc)

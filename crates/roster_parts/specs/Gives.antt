@@ -49,6 +49,7 @@ pub gives_turned : (x : Reading Roster) {c : Result RosterBytes Refusal} {r : Re
 gives_turned (accepted H) g e = absurd (subst (Gives (accepted H)) e g)
 gives_turned (refused n) g e = ap refused (sym (subst (Gives (refused n)) e g))
 
+-- a change that is made, and the bytes that were handed on
 pub gives_made : (x : Reading Roster) {c : Result RosterBytes Refusal} {b : RosterBytes} → Gives x c → c ≡ Ok b
     → (H : Roster) × (x ≡ accepted H) × (b.len ≤ roster_size) × (take b.len b.roster ≡ write_roster H)
 gives_made (accepted H) g e = let (few, front) = subst (Gives (accepted H)) e g in (H, refl, few, front)

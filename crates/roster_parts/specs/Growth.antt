@@ -78,6 +78,7 @@ holds_then {xs} {ys} g h = record { front = h.front ∙ ap (λ z. take roster_si
 pub holds_all : {xs : List ℕ} {b c : RosterBytes} → Holds [] b → Grown xs b c → Holds xs c
 holds_all {xs} g h = holds_then g h
 
+-- the same bytes, said otherwise
 pub holds_as : {xs ys : List ℕ} {b : RosterBytes} → xs ≡ ys → Holds xs b → Holds ys b
 holds_as {xs} {ys} {b} e g = subst (λ z. Holds z b) e g
 

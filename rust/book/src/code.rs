@@ -18,8 +18,8 @@ const BUILT: [&str; 4] = ["len", "copy_from_slice", "is_err", "is_ok"];
 const VARIANTS: [&str; 4] = ["Some", "None", "Ok", "Err"];
 /// The kit's library whose methods are called by their names alone.
 const STD: &str = "std";
-/// The crates that it hands on what reads and writes from.
-const STD_PARTS: [&str; 2] = ["std", "std_io"];
+/// It, and the crates that it hands things on from: what the language itself has, and what reads and writes.
+const STD_PARTS: [&str; 3] = ["std", "core", "std_io"];
 /// First words of a path that stay in the crate.
 const HERE: [&str; 3] = ["super", "crate", "self"];
 
@@ -170,6 +170,7 @@ impl<'a> Resolver<'a> {
                     own => Found::own(own),
                 },
             },
+            [STD, of, name] if self.kit_has(STD, name) => Found::Call(Callee::Kit(format!("{STD}::{of}::{name}"))),
             [owner, of, name] => self.of_type(owner, of, name),
             _ => Found::Nothing,
         }
@@ -243,7 +244,7 @@ fn kit_functions(library: &Library, name: &str) -> HashSet<String> {
         let text = std::fs::read_to_string(&place).unwrap_or_default();
         for line in text.lines().map(str::trim_start) {
             let public = line.strip_prefix("pub fn ");
-            let method = line.strip_prefix("fn ").filter(|_| name == STD);
+            let method = line.strip_prefix("final ").unwrap_or(line).strip_prefix("fn ").filter(|_| name == STD);
             found.extend(public.or(method).and_then(|l| Some(l[..l.find(['(', '<'])?].to_string())));
         }
     }
