@@ -1,10 +1,11 @@
 //! Which functions a call comes to: each call in a body, in its order, is led to a function of the project or of the kit's libraries.
 
-use crate::kit::files_below;
+use crate::kit::{files_below, parts, STD};
 use crate::lex::Kind;
 use crate::names::Library;
 use crate::rattle::Function;
 use crate::source::{File, Sort};
+use crate::term::Span;
 use std::cell::RefCell;
 use std::collections::{HashMap, HashSet};
 
@@ -16,10 +17,6 @@ const STATED: [&str; 2] = ["invariant", "decreases"];
 const BUILT: [&str; 4] = ["len", "copy_from_slice", "is_err", "is_ok"];
 /// Variants that stand in every file.
 const VARIANTS: [&str; 4] = ["Some", "None", "Ok", "Err"];
-/// The kit's library whose methods are called by their names alone.
-const STD: &str = "std";
-/// It, and the crates that it hands things on from: what the language itself has, and what reads and writes.
-const STD_PARTS: [&str; 3] = ["std", "core", "std_io"];
 /// First words of a path that stay in the crate.
 const HERE: [&str; 3] = ["super", "crate", "self"];
 
@@ -112,7 +109,7 @@ impl<'a> Resolver<'a> {
     }
 
     /// The calls of a body, each at its closing bracket; those that lead nowhere are told in `lost`.
-    fn called(&self, function: &Function, lost: &mut Vec<String>) -> Vec<Callee> {
+    fn called(&self, function: &'a Function, lost: &mut Vec<String>) -> Vec<Callee> {
         let file = &self.library.files[function.file];
         let mut found: Vec<(usize, Callee)> = Vec::new();
         let mut at = function.body.from;
@@ -124,7 +121,7 @@ impl<'a> Resolver<'a> {
             if file.words[at].kind == Kind::Name && file.word(at + 1) == "(" && !KEYWORDS.contains(&file.word(at)) {
                 let (first, path) = path_at(file, function.body.from, at);
                 let method = file.word(first - 1) == "." && file.word(first - 2) != ".";
-                match if method { self.method(path[0]) } else { self.path(function, &path) } {
+                match if method { self.method(function, first) } else { self.path(function, &path) } {
                     Found::Call(callee) => found.push((behind(file, at + 1, function.body.to, ")"), callee)),
                     Found::Value => {}
                     Found::Nothing => {
@@ -140,14 +137,41 @@ impl<'a> Resolver<'a> {
         found.into_iter().map(|f| f.1).filter(|callee| seen.insert(callee.clone())).collect()
     }
 
-    fn method(&self, name: &str) -> Found {
+    /// A method, by its place. Of those that several types have it is the one of its receiver's type.
+    fn method(&self, function: &'a Function, at: usize) -> Found {
+        let name = self.library.files[function.file].word(at);
         if BUILT.contains(&name) {
             return Found::Value;
         }
-        match self.methods.get(name) {
-            Some(all) => Found::own((all.len() == 1).then(|| all[0])),
+        match self.methods.get(name).map(Vec::as_slice) {
+            Some(&[one]) => Found::own(Some(one)),
+            Some(all) => Found::own(self.receiver(function, at - 2).and_then(|of| all.iter().copied().find(|&m| self.type_of(m) == Some(of)))),
             None if self.kit_has(STD, name) => Found::Call(Callee::Kit(format!("{STD}::{name}"))),
             None => Found::Nothing,
+        }
+    }
+
+    /// The type that a method is of.
+    fn type_of(&self, method: usize) -> Option<&'a str> {
+        self.library.functions[method].name.split_once("::").map(|n| n.0)
+    }
+
+    /// The type of the name at a place of a body: that of a parameter, or what the call hands back that the last `let` of the name before it begins with.
+    fn receiver(&self, function: &'a Function, at: usize) -> Option<&'a str> {
+        let file = &self.library.files[function.file];
+        let name = file.word(at);
+        let bound = (function.body.from..at).rev().find(|&k| file.word(k) == name && file.word(k + 1) == "=" && matches!(file.word(k - 1), "let" | "mut"));
+        if let Some(bound) = bound {
+            let open = (bound..at).find(|&k| file.word(k) == "(")?;
+            let Found::Call(Callee::Own(called)) = self.path(function, &path_at(file, bound, open - 1).1) else {
+                return None;
+            };
+            let called = &self.library.functions[called];
+            return first_type(&self.library.files[called.file], called.result?);
+        }
+        match function.parameters.iter().find(|p| p.0 == name)? {
+            (own, _) if own == "self" => function.name.split_once("::").map(|n| n.0),
+            (_, of) => first_type(file, *of),
         }
     }
 
@@ -157,6 +181,8 @@ impl<'a> Resolver<'a> {
         let inner = path.iter().position(|p| !HERE.contains(p)).unwrap_or(0);
         match path[inner..] {
             [name] if VARIANTS.contains(&name) => Found::Value,
+            // what is called is a closure that the function was given
+            [name] if function.parameters.iter().any(|p| p.0 == name) => Found::Value,
             [name] if inner > 0 => Found::own(self.in_crate(own, name, None)),
             [name] => Found::own(self.in_crate(own, name, Some(function.file)).or_else(|| self.used(function.file, own, name))),
             [of, name] if is_type(of) => match self.type_owner(function.file, own, of) {
@@ -236,11 +262,15 @@ fn is_type(name: &str) -> bool {
     name.starts_with(|c: char| c.is_uppercase())
 }
 
+/// The first name of a type in a type of the code.
+fn first_type(file: &File, of: Span) -> Option<&str> {
+    (of.from..of.to).map(|k| file.word(k)).find(|word| is_type(word))
+}
+
 /// The public functions of one of the kit's libraries; of `std` the methods too, of types and of traits. They are read off the lines that they begin in.
 fn kit_functions(library: &Library, name: &str) -> HashSet<String> {
     let mut found = HashSet::new();
-    let folders: &[&str] = if name == STD { &STD_PARTS } else { &[name] };
-    for place in folders.iter().flat_map(|folder| files_below(&library.kit.join("rattle").join(folder).join("src"), "rt")) {
+    for place in parts(name).into_iter().flat_map(|folder| files_below(&library.kit.join("rattle").join(folder).join("src"), "rt")) {
         let text = std::fs::read_to_string(&place).unwrap_or_default();
         for line in text.lines().map(str::trim_start) {
             let public = line.strip_prefix("pub fn ");

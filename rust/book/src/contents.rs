@@ -372,8 +372,8 @@ impl Book<'_> {
         let library = self.library();
         let d = &library.decls[decl];
         match d.sort {
-            Sort::Struct | Sort::Enum => Chapter::Code,
             _ if library.crate_of(d.file).is_none() => Chapter::Kit,
+            sort if sort.is_code() => Chapter::Code,
             _ if self.is_model(decl) => Chapter::Model,
             _ => Chapter::Promises,
         }

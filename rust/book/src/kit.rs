@@ -3,6 +3,20 @@
 use std::collections::HashMap;
 use std::path::{Path, PathBuf};
 
+/// The kit's library whose names need no path: its methods, and what its prelude has.
+pub const STD: &str = "std";
+/// It, and the crates that it hands things on from: what the language itself has, and what reads and writes.
+pub const STD_PARTS: [&str; 3] = [STD, "core", "std_io"];
+
+/// The crates of the kit that what one of them offers may stand in.
+pub fn parts<'a>(of: &'a str) -> Vec<&'a str> {
+    if of == STD {
+        STD_PARTS.to_vec()
+    } else {
+        vec![of]
+    }
+}
+
 /// The files below a folder with an ending, sorted.
 pub fn files_below(folder: &Path, ending: &str) -> Vec<PathBuf> {
     let mut found = Vec::new();

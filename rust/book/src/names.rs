@@ -1,6 +1,6 @@
 //! The library of all files, and what a name of a module is: declared there, or handed on by its `use` lines, as the checker reads them.
 
-use crate::kit::{files_below, libraries};
+use crate::kit::{files_below, libraries, parts, STD};
 use crate::lex;
 use crate::rattle::{self, Function};
 use crate::source::{self, Decl, File, Sort};
@@ -63,7 +63,7 @@ pub struct Library {
     pub decls: Vec<Decl>,
     pub functions: Vec<Function>,
     paths: HashMap<String, usize>,
-    /// the types of the code, by crate and name
+    /// the types of the code, by crate and name; those of the kit by crate and `file.Name`, since several of a name are in a crate
     declared: HashMap<(String, String), usize>,
     libraries: HashMap<String, PathBuf>,
     built: RefCell<Vec<String>>,
@@ -194,6 +194,37 @@ impl Library {
         Some(file)
     }
 
+    /// Reads the file of the kit's code that a type is declared in, for the module that the compiler makes of the type.
+    fn read_kit_type(&mut self, path: &str) {
+        let Some((owner, of, _)) = declared_in(path).filter(|d| self.kit_type(d.0, d.1).is_none()) else {
+            return;
+        };
+        let Some((module, name)) = of.rsplit_once('.') else {
+            return;
+        };
+        for part in parts(owner) {
+            let place = self.kit.join("rattle").join(part).join("src").join(module.replace('.', "/"));
+            let Some(place) = [place.with_extension("rt"), place.join("mod.rt")].into_iter().find(|p| p.is_file()) else {
+                continue;
+            };
+            let Ok(text) = std::fs::read_to_string(&place) else {
+                continue;
+            };
+            let first = self.decls.len();
+            let (file, _) = rattle::read(&format!("code:{part}"), place, text, self.files.len(), &mut self.decls);
+            self.files.push(file);
+            if let Some(decl) = (first..self.decls.len()).find(|&d| self.decls[d].name == name) {
+                self.declared.insert((part.to_string(), of.to_string()), decl);
+                return;
+            }
+        }
+    }
+
+    /// A type of the kit's code, which its crate declares or hands on.
+    fn kit_type(&self, owner: &str, of: &str) -> Option<usize> {
+        parts(owner).into_iter().find_map(|part| self.declared(part, of))
+    }
+
     /// Reads what the `use` lines of the crates name, as far as names are handed on.
     fn reach_kit(&mut self) {
         let mut queue: Vec<(String, Option<String>)> = self.files.iter().flat_map(|f| f.uses.iter().map(|u| (u.path.clone(), u.name.clone()))).collect();
@@ -202,6 +233,7 @@ impl Library {
             if !seen.insert((path.clone(), name.clone())) || path.starts_with("code:") {
                 continue;
             }
+            self.read_kit_type(&path);
             let Some(file) = self.module(&path) else {
                 continue;
             };
@@ -252,6 +284,14 @@ impl Library {
         self.declared.get(&(name.to_string(), of.to_string())).copied()
     }
 
+    /// What a name in the code of a file is: a type of its crate, one that a `use` line brings, or one that stands open in every file, as `Result`.
+    pub fn in_code(&self, file: usize, name: &str) -> Option<Target> {
+        let own = self.declared(self.crate_of(file).unwrap_or(""), name);
+        let used = || self.find(&self.files[file].uses.iter().find(|u| u.here == name)?.path, name);
+        let open = || self.find(&format!("Rattle.{STD}.specs.Prelude"), name).filter(|t| t.decl().is_some_and(|d| self.decls[d].sort.is_code()));
+        own.map(Target::Decl).or_else(used).or_else(open)
+    }
+
     /// What a name of a module is.
     pub fn find(&self, path: &str, name: &str) -> Option<Target> {
         self.find_from(path, name, 0)
@@ -264,9 +304,8 @@ impl Library {
         if let Some(of) = path.strip_prefix("code:") {
             return self.declared(of, name).map(Target::Decl);
         }
-        if let Some((before, rest)) = path.split_once(".specs.declared.") {
-            let owner = before.strip_prefix("Rattle.")?;
-            return self.find_declared(owner, rest, name);
+        if let Some((owner, of, variants)) = declared_in(path) {
+            return self.find_declared(owner, of, variants, name);
         }
         let file = &self.files[*self.paths.get(path)?];
         if let Some(own) = self.own(file, name) {
@@ -284,12 +323,8 @@ impl Library {
     }
 
     /// A type of the code, or one of its variants.
-    fn find_declared(&self, owner: &str, rest: &str, name: &str) -> Option<Target> {
-        let (of, variants) = match rest.strip_suffix(".TheVariants") {
-            Some(of) => (of, true),
-            None => (rest, false),
-        };
-        let decl = self.declared(owner, of.rsplit('.').next()?)?;
+    fn find_declared(&self, owner: &str, of: &str, variants: bool, name: &str) -> Option<Target> {
+        let decl = self.declared(owner, of.rsplit('.').next()?).or_else(|| self.kit_type(owner, of))?;
         if !variants {
             return (self.decls[decl].name == name).then_some(Target::Decl(decl));
         }
@@ -400,7 +435,7 @@ impl Library {
         let d = &self.decls[decl];
         let file = &self.files[d.file];
         match (self.crate_of(d.file), d.sort) {
-            (Some(owner), Sort::Struct | Sort::Enum) => format!("{owner}::{}", d.name),
+            (_, Sort::Struct | Sort::Enum) => format!("{}::{}", file.path.trim_start_matches("code:"), d.name),
             (Some(owner), _) => {
                 let inner = file.path.rsplit('.').next().unwrap_or("");
                 format!("{owner}/{inner}.{}", d.name)
@@ -408,4 +443,12 @@ impl Library {
             (None, _) => format!("{}.{}", file.path, d.name),
         }
     }
+}
+
+/// The module that the compiler makes of a type of the code, `Rattle.CRATE.specs.declared.FILE.TYPE`: the crate, the type with its file, and whether the
+/// module is that of its variants.
+fn declared_in(path: &str) -> Option<(&str, &str, bool)> {
+    let (owner, of) = path.strip_prefix("Rattle.")?.split_once(".specs.declared.")?;
+    let variants = of.strip_suffix(".TheVariants");
+    Some((owner, variants.unwrap_or(of), variants.is_some()))
 }

@@ -177,13 +177,18 @@ impl Reader<'_> {
         let sort = if self.here() == "struct" { Sort::Struct } else { Sort::Enum };
         let name = self.file.word(self.at + 1).to_string();
         let from = if self.file.words[first].line == self.file.words[self.at].line { first } else { self.at };
+        let nothing = Span { from: 0, to: 0 };
+        self.at += 2;
+        let parameters = match self.here() {
+            "<" => Span { from: self.at + 1, to: self.file.behind_types(self.at) - 1 },
+            _ => nothing,
+        };
         while !matches!(self.here(), "{" | "(" | ";" | "") {
             self.at += 1;
         }
         let to = self.closing(self.at);
         let members = self.members(self.at + 1, to - 1, sort);
         let line = self.file.words[from].line;
-        let nothing = Span { from: 0, to: 0 };
         self.all.push(Decl {
             name,
             sort,
@@ -191,7 +196,7 @@ impl Reader<'_> {
             line,
             note: note_above(&self.file, line),
             sections: Vec::new(),
-            parameters: nothing,
+            parameters,
             of: nothing,
             members,
             clauses: Vec::new(),
@@ -234,7 +239,7 @@ impl Reader<'_> {
         let line = self.file.words[start].line;
         self.at += 2;
         if self.here() == "<" {
-            self.at = self.behind_types(self.at);
+            self.at = self.file.behind_types(self.at);
         }
         let open = self.at;
         self.at = self.closing(open);
@@ -263,22 +268,6 @@ impl Reader<'_> {
         self.at = end;
     }
 
-    /// The place behind the types in `<` and `>`.
-    fn behind_types(&self, open: usize) -> usize {
-        let mut depth = 0i32;
-        for k in open..self.file.words.len() {
-            match self.file.word(k) {
-                "<" => depth += 1,
-                ">" if self.file.word(k - 1) != "-" => depth -= 1,
-                _ => {}
-            }
-            if depth == 0 {
-                return k + 1;
-            }
-        }
-        self.file.words.len()
-    }
-
     fn parameters(&self, from: usize, to: usize) -> Vec<(String, Span)> {
         let mut found = Vec::new();
         let mut at = from;
@@ -287,7 +276,7 @@ impl Reader<'_> {
             while end < to && self.file.word(end) != "," {
                 end = match self.file.word(end) {
                     "(" | "[" => self.closing(end),
-                    "<" => self.behind_types(end),
+                    "<" => self.file.behind_types(end),
                     _ => end + 1,
                 };
             }

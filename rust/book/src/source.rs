@@ -18,6 +18,13 @@ pub enum Sort {
     Call,
 }
 
+impl Sort {
+    /// Whether it is a type of the code.
+    pub fn is_code(self) -> bool {
+        matches!(self, Sort::Struct | Sort::Enum)
+    }
+}
+
 /// A field of a record or a constructor of data.
 #[derive(Clone, Debug)]
 pub struct Member {
@@ -84,6 +91,22 @@ impl File {
     /// A word as it is written.
     pub fn word(&self, k: usize) -> &str {
         self.words[k].of(&self.text)
+    }
+
+    /// The place behind the types of the code in `<` and `>`.
+    pub fn behind_types(&self, open: usize) -> usize {
+        let mut depth = 0i32;
+        for k in open..self.words.len() {
+            match self.word(k) {
+                "<" => depth += 1,
+                ">" if self.word(k - 1) != "-" => depth -= 1,
+                _ => {}
+            }
+            if depth == 0 {
+                return k + 1;
+            }
+        }
+        self.words.len()
     }
 
     /// The text of some words, with what stands between them.

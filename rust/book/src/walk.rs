@@ -73,7 +73,7 @@ struct Walk<'a> {
 pub fn declaration(trees: &Trees, decl: usize) -> Links {
     let library = trees.library;
     let d = &library.decls[decl];
-    if matches!(d.sort, Sort::Struct | Sort::Enum) {
+    if d.sort.is_code() {
         return code_names(library, d.file, d.words);
     }
     let mut walk = Walk::new(trees, d.file, Some(decl));
@@ -134,7 +134,6 @@ pub fn contract(trees: &Trees, function: &Function) -> Links {
 /// The names of types in words of the code.
 fn code_names(library: &Library, file: usize, span: Span) -> Links {
     let source = &library.files[file];
-    let owner = library.crate_of(file).unwrap_or("");
     let mut links = Links::default();
     for k in span.from..span.to {
         let word = source.word(k);
@@ -142,9 +141,7 @@ fn code_names(library: &Library, file: usize, span: Span) -> Links {
         if !named {
             continue;
         }
-        let used = source.uses.iter().find(|u| u.here == word);
-        let found = library.declared(owner, word).map(Target::Decl);
-        if let Some(target) = found.or_else(|| library.find(&used?.path, word)) {
+        if let Some(target) = library.in_code(file, word) {
             links.words.insert(k, Link::To(target));
         }
     }

@@ -25,13 +25,22 @@ impl Store<'_> {
         found
     }
 
+    /// The names of the types that a struct or an enum of the code is over.
+    fn code_parameters(&self, decl: usize) -> Vec<String> {
+        let d = &self.library().decls[decl];
+        let source = &self.library().files[d.file];
+        let named = (d.parameters.from..d.parameters.to).filter(|&k| matches!(source.word(k - 1), "<" | ",") && source.word(k) != "'");
+        named.map(|k| source.word(k).to_string()).collect()
+    }
+
     /// The type of a field of a record at some arguments.
     pub fn field(&mut self, decl: usize, member: usize, arguments: &[Type]) -> Type {
         let library = self.library();
         let d = &library.decls[decl];
         let span = d.members[member].of;
-        if matches!(d.sort, Sort::Struct | Sort::Enum) {
-            return self.code_type(d.file, span);
+        if d.sort.is_code() {
+            let env: Env = self.code_parameters(decl).into_iter().zip(arguments.iter().cloned()).collect();
+            return self.code_types(d.file, span, &env).into_iter().next().unwrap_or(Type::Unknown);
         }
         let mut explicit: Vec<String> = Vec::new();
         let mut env: Env = Vec::new();
@@ -56,8 +65,9 @@ impl Store<'_> {
         let library = self.library();
         let d = &library.decls[decl];
         if d.sort == Sort::Enum {
-            let whole = Type::Named(Target::Decl(decl), Vec::new());
-            return self.code_types(d.file, d.members[member].of).into_iter().rev().fold(whole, |to, from| Type::Function(Box::new(from), Box::new(to), false));
+            let env: Env = self.code_parameters(decl).into_iter().map(|name| (name, self.fresh())).collect();
+            let whole = Type::Named(Target::Decl(decl), env.iter().map(|e| e.1.clone()).collect());
+            return self.code_types(d.file, d.members[member].of, &env).into_iter().rev().fold(whole, |to, from| Type::Function(Box::new(from), Box::new(to), false));
         }
         let mut env: Env = Vec::new();
         for (name, _) in self.parameters(decl) {
@@ -78,8 +88,9 @@ impl Store<'_> {
     /// The type of a record or a data type as a function of its parameters.
     fn former(&mut self, decl: usize, from: Option<usize>) -> Type {
         let d = &self.library().decls[decl];
-        if matches!(d.sort, Sort::Struct | Sort::Enum) {
-            return Type::Universe;
+        if d.sort.is_code() {
+            let over = self.code_parameters(decl).into_iter();
+            return over.fold(Type::Universe, |to, _| Type::Function(Box::new(Type::Universe), Box::new(to), false));
         }
         self.over_parameters(decl, from, d.parameters, |_, _| Type::Universe)
     }
@@ -129,14 +140,13 @@ impl Store<'_> {
 
     /// A type of the code as definitions see it.
     pub fn code_type(&mut self, file: usize, span: Span) -> Type {
-        self.code_types(file, span).into_iter().next().unwrap_or(Type::Unknown)
+        self.code_types(file, span, &Env::new()).into_iter().next().unwrap_or(Type::Unknown)
     }
 
-    /// The types in a row of code, as in a variant; brackets make a list.
-    fn code_types(&mut self, file: usize, span: Span) -> Vec<Type> {
+    /// The types in a row of code, as in a variant; brackets make a list. Those that the whole is over are in `env`.
+    fn code_types(&mut self, file: usize, span: Span, env: &Env) -> Vec<Type> {
         let library = self.library();
         let source = &library.files[file];
-        let owner = library.crate_of(file).unwrap_or("");
         let (mut found, mut lists, mut at) = (Vec::new(), 0usize, span.from);
         while at < span.to {
             let word = source.word(at);
@@ -158,10 +168,15 @@ impl Store<'_> {
                 "i8" | "i16" | "i32" | "i64" | "isize" => self.library_type(PRELUDE, "ℤ"),
                 "bool" => self.library_type(PRELUDE, "Bool"),
                 _ if word.starts_with(char::is_uppercase) => {
-                    let own = library.declared(owner, word);
-                    let used = source.uses.iter().find(|u| u.here == word);
-                    let decl = own.or_else(|| library.find(&used?.path, word)?.decl());
-                    decl.map_or(Type::Unknown, |d| Type::Named(Target::Decl(d), Vec::new()))
+                    let mut arguments = Vec::new();
+                    if at < span.to && source.word(at) == "<" {
+                        let end = source.behind_types(at);
+                        arguments = self.code_types(file, Span { from: at + 1, to: end - 1 }, env);
+                        at = end;
+                    }
+                    let known = env.iter().find(|e| e.0 == word).map(|e| e.1.clone());
+                    let decl = || library.in_code(file, word)?.decl();
+                    known.or_else(|| Some(Type::Named(Target::Decl(decl()?), arguments))).unwrap_or(Type::Unknown)
                 }
                 _ => continue,
             };
