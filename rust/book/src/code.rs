@@ -156,22 +156,28 @@ impl<'a> Resolver<'a> {
         self.library.functions[method].name.split_once("::").map(|n| n.0)
     }
 
-    /// The type of the name at a place of a body: that of a parameter, or what the call hands back that the last `let` of the name before it begins with.
+    /// The type of the name at a place of a body: what the last `let` of it before says, or what the call there hands back; or that of a parameter.
     fn receiver(&self, function: &'a Function, at: usize) -> Option<&'a str> {
         let file = &self.library.files[function.file];
         let name = file.word(at);
-        let bound = (function.body.from..at).rev().find(|&k| file.word(k) == name && file.word(k + 1) == "=" && matches!(file.word(k - 1), "let" | "mut"));
-        if let Some(bound) = bound {
-            let open = (bound..at).find(|&k| file.word(k) == "(")?;
-            let Found::Call(Callee::Own(called)) = self.path(function, &path_at(file, bound, open - 1).1) else {
-                return None;
+        let is_let = |k: &usize| file.word(*k) == name && matches!(file.word(k - 1), "let" | "mut") && matches!(file.word(k + 1), "=" | ":");
+        let Some(bound) = (function.body.from..at).rev().find(is_let) else {
+            return match function.parameters.iter().find(|p| p.0 == name)? {
+                (own, _) if own == "self" => function.name.split_once("::").map(|n| n.0),
+                (_, of) => first_type(file, *of),
             };
-            let called = &self.library.functions[called];
-            return first_type(&self.library.files[called.file], called.result?);
+        };
+        if file.word(bound + 1) == ":" {
+            return first_type(file, Span { from: bound + 2, to: at });
         }
-        match function.parameters.iter().find(|p| p.0 == name)? {
-            (own, _) if own == "self" => function.name.split_once("::").map(|n| n.0),
-            (_, of) => first_type(file, *of),
+        let open = (bound..at).find(|&k| file.word(k) == "(")?;
+        let (first, path) = path_at(file, bound, open - 1);
+        match self.path(function, &path) {
+            Found::Call(Callee::Own(called)) if first == bound + 2 => {
+                let called = &self.library.functions[called];
+                first_type(&self.library.files[called.file], called.result?)
+            }
+            _ => None,
         }
     }
 

@@ -7,7 +7,7 @@ use crate::names::{Library, Target};
 use crate::papers::{quotations, Papers, Place};
 use crate::reach::{self, Call, Names};
 use crate::rows::{self, Row};
-use crate::source::{File, Sort};
+use crate::source::File;
 use crate::walk::{Link, Links};
 use std::collections::{BTreeMap, BTreeSet, HashMap};
 use std::path::Path;

@@ -9,7 +9,7 @@ pub const STD: &str = "std";
 pub const STD_PARTS: [&str; 3] = [STD, "core", "std_io"];
 
 /// The crates of the kit that what one of them offers may stand in.
-pub fn parts<'a>(of: &'a str) -> Vec<&'a str> {
+pub fn parts(of: &str) -> Vec<&str> {
     if of == STD {
         STD_PARTS.to_vec()
     } else {

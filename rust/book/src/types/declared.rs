@@ -67,7 +67,11 @@ impl Store<'_> {
         if d.sort == Sort::Enum {
             let env: Env = self.code_parameters(decl).into_iter().map(|name| (name, self.fresh())).collect();
             let whole = Type::Named(Target::Decl(decl), env.iter().map(|e| e.1.clone()).collect());
-            return self.code_types(d.file, d.members[member].of, &env).into_iter().rev().fold(whole, |to, from| Type::Function(Box::new(from), Box::new(to), false));
+            return self
+                .code_types(d.file, d.members[member].of, &env)
+                .into_iter()
+                .rev()
+                .fold(whole, |to, from| Type::Function(Box::new(from), Box::new(to), false));
         }
         let mut env: Env = Vec::new();
         for (name, _) in self.parameters(decl) {
