@@ -2,7 +2,6 @@
 -- that are written one after the other are one text.
 use Rattle.std.specs.Prelude.{ℕ, ◌+◌, ◌≤◌, ◌<◌, ◌≡◌, refl, List, [], ◌∷◌, ◌++◌, length, take, drop, set}
 use Rattle.std.proofs.Common.{arith, add-one, sym, ap, ap₂, ◌∙◌, subst, append_assoc, take-append-drop, length-append, length-take-le, take_at, drop_at, drop-drop}
-use Rattle.std.proofs.Math.Seq.{take-length, paste}
 use Rattle.std.proofs.lemmas.List.{set_split}
 
 -- the text x stands in the buffer from a place on, every other byte is as it was, and `next` is the place behind it
@@ -22,15 +21,6 @@ module _ (out : List ℕ) (at : ℕ) where
 
   pub append_one : (b : ℕ) → at < length out → Appended out at (b ∷ []) (set out at b) (at + 1)
   append_one b h = record { place = refl; bytes = set_split out at b h ∙ ap (λ k. take at out ++ (b ∷ drop k out)) (sym (add-one at)) }
-
-  -- the whole of a word, copied byte by byte
-  pub append_word : (w after : List ℕ) (n : ℕ) → n ≡ length w → after ≡ paste out at w n → Appended out at w after (at + n)
-  append_word w after n e p = record {
-    place = ap (λ k. at + k) e;
-    bytes =
-        p ∙ ap (λ k. paste out at w k) e ∙ ap (λ (l : List ℕ). (take at out ++ l) ++ drop (at + length w) out) (take-length w)
-        ∙ append_assoc (take at out) w (drop (at + length w) out);
-  }
 
   module _ {x y mid after : List ℕ} {p q : ℕ} (h : at ≤ length out) (a : Appended out at x mid p) (b : Appended mid p y after q) where
     -- two texts, the second behind the first, are one
