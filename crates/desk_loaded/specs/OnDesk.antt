@@ -50,16 +50,24 @@ pub record LoadedFrom (roster plan : List ℕ) (needs short : Bool) (n : ℕ) (r
   pub planned : (R : Roster) → read_roster roster ≡ accepted R → T needs → (M : Plan) → read_plan (instance_of R) plan ≡ accepted M
       → PlanIn r M × (plan_bytes (instance_of R) M ≡ plan)
 
--- a call's result on the arrays of an accepted roster, and on the bytes of a roster and of a plan: what it has to work on, or the state's refusal
+-- the state's refusal on the arrays of an accepted roster; and nothing stale is said of a plan file that is accepted
+pub record NotOnRoster (g : Instance) (file : List ℕ) (needs short : Bool) (e : Refusal) : Type 0 where
+  pub number : (R : Roster) → number_of e ≡ state_number (held_plan R (read_plan (shown_by g) file)) needs short
+  pub planned : (M : Plan) → read_plan (shown_by g) file ≡ accepted M → (M ∈ plans_of (shown_by g)) × (plan_bytes (shown_by g) M ≡ file)
+
+-- a call's result on the arrays of an accepted roster: what it has to work on, or the state's refusal
 abbrev pub OnRosterAs : Instance → (file : List ℕ) → (needs short : Bool) → Result OnDesk Refusal → Type 0
 OnRosterAs g file needs short (Ok r) = OnRoster g file needs short 0 r
-OnRosterAs g file needs short (Err e) = (R : Roster) → number_of e ≡ state_number (held_plan R (read_plan (shown_by g) file)) needs short
+OnRosterAs g file needs short (Err e) = NotOnRoster g file needs short e
 
--- the state's refusal; and of what is held nothing stale is said: a roster held is within the limits, and a plan held within its quotas
+-- the state's refusal; and of what is held nothing stale is said: a roster held is within the limits, a plan held within its quotas, and both have the
+-- bytes that they are written to
 pub record NotLoaded (roster plan : List ℕ) (needs short : Bool) (e : Refusal) : Type 0 where
   pub number : number_of e ≡ state_number (held (read_roster roster) plan) needs short
   pub fitting : (R : Roster) → read_roster roster ≡ accepted R → T (fits R)
+  pub written : (R : Roster) → read_roster roster ≡ accepted R → write_roster R ≡ roster
   pub within : (R : Roster) (M : Plan) → read_roster roster ≡ accepted R → read_plan (instance_of R) plan ≡ accepted M → M ∈ plans_of (instance_of R)
+  pub planned : (R : Roster) (M : Plan) → read_roster roster ≡ accepted R → read_plan (instance_of R) plan ≡ accepted M → plan_bytes (instance_of R) M ≡ plan
 
 -- what a call has to work on, from the bytes of a roster and of a plan, or the state's refusal
 abbrev pub LoadedAs : (roster plan : List ℕ) → (needs short : Bool) → Result OnDesk Refusal → Type 0
@@ -116,6 +124,12 @@ module _ (g : Instance) (file : List ℕ) (p : Result PlanRead Refusal) (A : Rea
               listed = subst (λ h. Listed h.m r.plan.chosen r.plan.n r.plan.edges) (sym same) (subst (λ z. Listed g.m z.chosen z.n z.edges) (sym ep) l);
             }
 
+-- a refusal
+pub not_on_roster : (g : Instance) (file : List ℕ) → T (is_bytes file) → {needs short : Bool} {e : Refusal}
+    → ((R : Roster) → number_of e ≡ state_number (held_plan R (read_plan (shown_by g) file)) needs short) → NotOnRoster g file needs short e
+not_on_roster g file is_b q =
+    record { number = q; planned = λ M a. (plan_read_within (shown_by g) file M is_b a, plan_read_write (shown_by g) file M is_b a) }
+
 -- no plan is needed
 pub plan_unneeded : (g : Instance) (file : List ℕ) (short : Bool) (r : OnDesk) → r.g ≡ g → {n : ℕ} → n ≡ cond short 15 0 → OnRoster g file false short n r
 plan_unneeded g file short r same e = record {
@@ -130,7 +144,9 @@ pub not_loaded : (roster file : List ℕ) → T (is_bytes roster) → T (is_byte
 not_loaded roster file r f q = record {
   number = q;
   fitting = λ R a. read_fits roster R r a;
+  written = λ R a. read_write roster R r a;
   within = λ R M a b. plan_read_within (instance_of R) file M f b;
+  planned = λ R M a b. plan_read_write (instance_of R) file M f b;
 }
 
 pub roster_missing : (roster file : List ℕ) (needs short : Bool) {r : Result ⊤ Refusal} {n : Refusal} → r ≡ Err n → reading_of r ≡ file_read (read_roster roster)
@@ -161,7 +177,7 @@ module _ (roster : List ℕ) (is_b : T (is_bytes roster)) {x : Result ⊤ Refusa
       → LoadedAs roster file needs short r
   roster_read file f needs short (Ok r) O = roster_there file needs short 0 r O
   roster_read file f needs short (Err n) O = not_loaded roster file is_b f
-      (O R₀ ∙ ap (λ G. state_number (held_plan R₀ (read_plan G file)) needs short) (D.shows R₀ a₀) ∙ sym (ap (λ x. state_number (held x file) needs short) a₀))
+      (O.number R₀ ∙ ap (λ G. state_number (held_plan R₀ (read_plan G file)) needs short) (D.shows R₀ a₀) ∙ sym (ap (λ x. state_number (held x file) needs short) a₀))
 
 -- ---- a call that the state lets pass
 no_number : {A : Type 0} {n k : ℕ} → n ≤ 0 → n ≡ suc k → A

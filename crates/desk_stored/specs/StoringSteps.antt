@@ -39,7 +39,7 @@ nobody = record { quotas_s = []; quotas_t = []; lists_s = []; lists_t = [] }
 module _ (g : arrays.Instance) (file : List ℕ) where
   pub no_plan_law : (s : ℕ) {x : Result OnDesk Refusal} {n : Refusal} → OnRosterAs g file true false x → x ≡ Err n
       → LessOf (shown_by g) s (read_plan (shown_by g) file) []
-  no_plan_law s {x} {n} F q = go (read_plan (shown_by g) file) (subst (OnRosterAs g file true false) q F nobody)
+  no_plan_law s {x} {n} F q = go (read_plan (shown_by g) file) ((subst (OnRosterAs g file true false) q F).number nobody)
     where
       go : (y : Reading Plan) → number_of n ≡ state_number (held_plan nobody y) true false → LessOf (shown_by g) s y []
       go (accepted M) e = absurd (let h = number_some n in let z : ⊥ = omega arith in z)
