@@ -18,7 +18,7 @@ with_plan-requires c = arrays_are c.args.files c.in_ok-here.ensures (le_refl 0)
 pub returns-in-Err : goal.returns-in-Err
 returns-in-Err c =
     let a = c.args in
-    open_missing a.files a.short c.in_ok-here.ensures c.front-file.ensures (number_of c.in-Err.field-0) (number_some c.in-Err.field-0) c.in-Err.ensures
+    open_missing a.files a.short c.in_ok-here.ensures c.front-file.ensures (number_of c.in-Err.field-0) (number_some c.in-Err.field-0) c.in-Err.ensures.number
 
 pub returns-in-Ok : goal.returns-in-Ok
 returns-in-Ok c =
