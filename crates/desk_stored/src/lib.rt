@@ -121,7 +121,9 @@ pub(crate) fn taken(files: Files, c: Result<RosterBytes, Refusal>, number: u8) -
     }
 }
 
-// a surveyor joins; `short`: a buffer lent to the call is below its size
+// a surveyor joins; `short`: a buffer lent to the call is below its size. Not inlined: what it makes of the roster need not lie on the stack below the
+// finder.
+#[inline(never)]
 pub fn joined(files: Files, short: bool, quota: u8, list: &[u8]) -> Change
     ensures { ChangedTo files short (λ R. join_on R quota list.now) 0 result }
 {
@@ -136,7 +138,8 @@ pub fn joined(files: Files, short: bool, quota: u8, list: &[u8]) -> Change
     }
 }
 
-// a surveyor leaves; `short`: a buffer lent to the call is below its size
+// a surveyor leaves; `short`: a buffer lent to the call is below its size. Not inlined, as above.
+#[inline(never)]
 pub fn departed(files: Files, short: bool, number: u8) -> Change
     ensures { ChangedTo files short (λ R. leave_on R number) number result }
 {

@@ -69,7 +69,9 @@ pub(crate) fn run(g: &Instance, tables: &EdgeTables) -> Reduction
     }
 }
 
-// All steps of an instance. Surveyors tie nothing.
+// All steps of an instance. Surveyors tie nothing. Not inlined: its tables need not lie
+// on the stack below the search for a rival.
+#[inline(never)]
 pub fn reduce(g: &Instance) -> Reduction
     requires { (g.now.m ≤ entry_limit) × Low g.now.m g.now.sv node_limit × Low g.now.m g.now.st node_limit
         × Low g.now.m g.now.rank_s empty_rank × Low g.now.m g.now.rank_t empty_rank }
