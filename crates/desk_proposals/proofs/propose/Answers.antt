@@ -12,12 +12,6 @@ use Rattle.desk_files.specs.State.{by_state, state_refuses, arrays_are, both_lon
 use Rattle.desk_proposals.specs.Proposals.{held_planned, propose_refused, proposal_small, propose_taken}
 use Rattle.desk_proposals.proofs.propose.Goals as goal
 
-pub returns-in-Err : goal.returns-in-Err
-returns-in-Err c =
-    let d = c.args in
-    by_state d.files (propose d.file.now d.forward.now d.back.now) tt tt
-    (state_refuses d.files true (ltb (length d.forward.now) pairing_size || ltb (length d.back.now) pairing_size) c.in-Err.ensures) (number_some c.in-Err.refusal) refl
-
 pub read_against-a-requires : goal.read_against-a-requires
 read_against-a-requires c = arrays_are c.args.files c.in-Ok.ensures (le_refl 0)
 
@@ -60,3 +54,9 @@ returns-in-Ok-a c =
     (to_z-of_z {w = w16} {z = b.result.first} (search rules) ∙ b.ensures.first_value.0)
     (to_z-of_z {w = w16} {z = b.result.second} (search rules) ∙ b.ensures.first_value.1)
     b.ensures.paired c.with_proposal-beside.result c.with_proposal-beside.ensures)
+
+pub returns-in-Err : goal.returns-in-Err
+returns-in-Err c =
+    let d = c.args in
+    by_state d.files (propose d.file.now d.forward.now d.back.now) tt tt
+    (state_refuses d.files true (ltb (length d.forward.now) pairing_size || ltb (length d.back.now) pairing_size) c.in-Err.ensures) (number_some c.in-Err.refusal) refl

@@ -9,16 +9,6 @@ use Rattle.desk_files.specs.State.{by_state, state_refuses, arrays_are, both_lon
 use Rattle.desk_queries.specs.Calls.{compare_reply}
 use Rattle.desk_queries.proofs.compare_votes.Goals as goal
 
-pub returns-in_err-l : goal.returns-in_err-l
-returns-in_err-l c =
-    let d = c.args in
-    let n = c.in_err-l.field-0.0 in
-    let told : c.from_residual.result ≡ Err n = search rules in
-    subst (λ a. Replied d.files (compare d.first.now d.second.now d.forward.now d.back.now) (comparison_shown a)
-    (compare d.first.now d.second.now d.forward.now d.back.now) d.files) (sym told)
-    (by_state d.files (compare d.first.now d.second.now d.forward.now d.back.now) tt tt
-    (state_refuses d.files false (ltb (length d.forward.now) pairing_size || ltb (length d.back.now) pairing_size) c.in_err-l.ensures) (number_some n) refl)
-
 pub compare-requires : goal.compare-requires
 compare-requires c =
     let d = c.args in record {
@@ -31,3 +21,13 @@ returns c =
     let d = c.args in
     compare_reply d.files d.first.now d.second.now d.forward.now d.back.now c.in_ok-l.ensures c.compare.result
     c.compare.ensures.value c.compare.ensures.paired
+
+pub returns-in_err-l : goal.returns-in_err-l
+returns-in_err-l c =
+    let d = c.args in
+    let n = c.in_err-l.field-0.0 in
+    let told : c.from_residual.result ≡ Err n = search rules in
+    subst (λ a. Replied d.files (compare d.first.now d.second.now d.forward.now d.back.now) (comparison_shown a)
+    (compare d.first.now d.second.now d.forward.now d.back.now) d.files) (sym told)
+    (by_state d.files (compare d.first.now d.second.now d.forward.now d.back.now) tt tt
+    (state_refuses d.files false (ltb (length d.forward.now) pairing_size || ltb (length d.back.now) pairing_size) c.in_err-l.ensures) (number_some n) refl)

@@ -7,11 +7,6 @@ use Rattle.answers.specs.Settling.{Answers, answers_short, answers_settled}
 use Rattle.routes.specs.Storing.{turn_by, head_turned, roster_turned, rest_whole}
 use Rattle.routes.proofs.routed.Goals as goal
 
-pub returns-then-out-lt-STORED_SIZE : goal.returns-then-out-lt-STORED_SIZE
-returns-then-out-lt-STORED_SIZE c =
-    let a = c.args in
-    answers_short stored_size (turn_by a.back a.file.now) a.out.now c.if-out-lt-STORED_SIZE.true
-
 pub returns-in_err-k : goal.returns-in_err-k
 returns-in_err-k c =
     let a = c.args in
@@ -47,3 +42,8 @@ returns c =
 
 pub overflow_add-k : goal.overflow_add-k
 overflow_add-k c = let R = c.in_ok-k.ensures in omega (arith, R.few)
+
+pub returns-then-out-lt-STORED_SIZE : goal.returns-then-out-lt-STORED_SIZE
+returns-then-out-lt-STORED_SIZE c =
+    let a = c.args in
+    answers_short stored_size (turn_by a.back a.file.now) a.out.now c.if-out-lt-STORED_SIZE.true
