@@ -16,7 +16,7 @@ use Rattle.desk_loaded.specs.Held.{state_number}
 use Rattle.desk_loaded.specs.OnDesk.{OnRoster, LoadedFrom, its_plan}
 use Rattle.desk_files.specs.declared.Files.{Files}
 use Rattle.desk_files.specs.Held.{roster_bytes, plan_bytes, proposal_bytes, held_of}
-use Rattle.desk_files.specs.State.{state_is, plan_held_law}
+use Rattle.desk_files.specs.State.{plan_held_law}
 
 -- the state's refusal of a call that needs an open proposal, 0 for none
 abbrev pub open_number : Held → (short : Bool) → ℕ

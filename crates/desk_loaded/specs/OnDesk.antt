@@ -18,7 +18,7 @@ use Rattle.arrays.specs.ArrayInstance.{flag}
 use Rattle.plan_lookup.specs.PlanEdges.{Listed}
 use Rattle.std.specs.declared.result.Result.TheVariants.{Ok, Err}
 use Rattle.answers.specs.declared.Refusal.{Refusal}
-use Rattle.answers.specs.RefusalCases.{number_of, reading_of, code_of}
+use Rattle.answers.specs.RefusalCases.{number_of, reading_of}
 use Rattle.answers.specs.FileCases.{file_read, read_accepted, read_refused}
 use Rattle.instance.specs.declared.Instance.{Instance}
 use Rattle.instance.specs.Decoded.{shown_by, Decoded}
@@ -55,9 +55,9 @@ pub record NotOnRoster (g : Instance) (file : List ℕ) (needs short : Bool) (e 
   pub number : (R : Roster) → number_of e ≡ state_number (held_plan R (read_plan (shown_by g) file)) needs short
   pub planned : (M : Plan) → read_plan (shown_by g) file ≡ accepted M → (M ∈ plans_of (shown_by g)) × (plan_bytes (shown_by g) M ≡ file)
 
--- a call's result on the arrays of an accepted roster: what it has to work on, or the state's refusal
-abbrev pub OnRosterAs : Instance → (file : List ℕ) → (needs short : Bool) → Result OnDesk Refusal → Type 0
-OnRosterAs g file needs short (Ok r) = OnRoster g file needs short 0 r
+-- a call's result on the arrays of an accepted roster: the plan that it has to work on with them, or the state's refusal
+abbrev pub OnRosterAs : Instance → (file : List ℕ) → (needs short : Bool) → Result PlanRead Refusal → Type 0
+OnRosterAs g file needs short (Ok p) = OnRoster g file needs short 0 (record { g = g; plan = p })
 OnRosterAs g file needs short (Err e) = NotOnRoster g file needs short e
 
 -- the state's refusal; and of what is held nothing stale is said: a roster held is within the limits, a plan held within its quotas, and both have the
@@ -138,6 +138,12 @@ plan_unneeded g file short r same e = record {
   planned = λ t. absurd t;
 }
 
+pub unplanned : (g : Instance) (file : List ℕ) (short : Bool) {needs : Bool} → needs ≡ false → (p : PlanRead) → ◌≡◌ {A = ℕ} 0 (cond short 15 0)
+    → OnRosterAs g file needs short (Ok p)
+unplanned g file short q p e =
+    let r : OnDesk = record { g = g; plan = p } in
+    subst (λ z. OnRosterAs g file z short (Ok p)) (sym q) (plan_unneeded g file short r refl e)
+
 -- ---- the roster's bytes
 pub not_loaded : (roster file : List ℕ) → T (is_bytes roster) → T (is_bytes file) → {needs short : Bool} {e : Refusal}
     → number_of e ≡ state_number (held (read_roster roster) file) needs short → NotLoaded roster file needs short e
@@ -172,10 +178,14 @@ module _ (roster : List ℕ) (is_b : T (is_bytes roster)) {x : Result ⊤ Refusa
     planned = λ R a. subst (λ G. T needs → (M : Plan) → read_plan G file ≡ accepted M → PlanIn r M × (plan_bytes G M ≡ file)) (D.shows R a) O.planned;
   }
 
-  -- the same of a call's result
-  pub roster_read : (file : List ℕ) → T (is_bytes file) → (needs short : Bool) (r : Result OnDesk Refusal) → OnRosterAs g file needs short r
-      → LoadedAs roster file needs short r
-  roster_read file f needs short (Ok r) O = roster_there file needs short 0 r O
+  -- the same of a call's result, with the instance
+  abbrev pub on_desk : Result PlanRead Refusal → Result OnDesk Refusal
+  on_desk (Ok p) = Ok (record { g = g; plan = p })
+  on_desk (Err n) = Err n
+
+  pub roster_read : (file : List ℕ) → T (is_bytes file) → (needs short : Bool) (r : Result PlanRead Refusal) → OnRosterAs g file needs short r
+      → LoadedAs roster file needs short (on_desk r)
+  roster_read file f needs short (Ok p) O = roster_there file needs short 0 (record { g = g; plan = p }) O
   roster_read file f needs short (Err n) O = not_loaded roster file is_b f
       (O.number R₀ ∙ ap (λ G. state_number (held_plan R₀ (read_plan G file)) needs short) (D.shows R₀ a₀) ∙ sym (ap (λ x. state_number (held x file) needs short) a₀))
 

@@ -45,22 +45,8 @@ pub fn check_buffers(short: bool) -> Result<(), Refusal>
     Ok(())
 }
 
-// an instance with no plan
-pub(crate) fn bare(g: Instance) -> OnDesk
-    ensures { result.g ≡ g }
-{
-    OnDesk {
-        g: g,
-        plan: PlanRead {
-            n: 0,
-            chosen: [false; ENTRY_LIMIT],
-            edges: [0; PLAN_LIMIT],
-        },
-    }
-}
-
 // "14 no plan held" before 15
-pub fn with_plan(g: Instance, plan: &[u8], short: bool) -> Result<OnDesk, Refusal>
+pub fn with_plan(g: Instance, plan: &[u8], short: bool) -> Result<PlanRead, Refusal>
     requires { Loaded g }
     ensures { OnRosterAs g plan.now true short result }
 {
@@ -68,18 +54,18 @@ pub fn with_plan(g: Instance, plan: &[u8], short: bool) -> Result<OnDesk, Refusa
         Err(_) => Err(Refusal::NoPlan),
         Ok(read) => {
             check_buffers(short)?;
-            Ok(OnDesk { g: g, plan: read })
+            Ok(read)
         }
     }
 }
 
-// the plan is read where it is needed
+// the plan is read where it is needed; else it is empty
 pub(crate) fn on_roster(
     g: Instance,
     plan: &[u8],
     needs: bool,
     short: bool,
-) -> Result<OnDesk, Refusal>
+) -> Result<PlanRead, Refusal>
     requires { Loaded g }
     ensures { OnRosterAs g plan.now needs short result }
 {
@@ -87,11 +73,15 @@ pub(crate) fn on_roster(
         return with_plan(g, plan, short);
     }
     check_buffers(short)?;
-    Ok(bare(g))
+    Ok(PlanRead {
+        n: 0,
+        chosen: [false; ENTRY_LIMIT],
+        edges: [0; PLAN_LIMIT],
+    })
 }
 
 // "13 no roster loaded" before all: `roster` and `plan` are the bytes held; `needs`: the call needs a plan; `short`: a buffer lent to it is
-// below its size.
+// below its size. What is answered has its instance put in last: each `Result` that is made of so large a value costs its size once more, cleared.
 pub fn loaded(roster: &[u8], plan: &[u8], needs: bool, short: bool) -> Result<OnDesk, Refusal>
     ensures { LoadedAs roster.now plan.now needs short result }
 {
@@ -99,7 +89,8 @@ pub fn loaded(roster: &[u8], plan: &[u8], needs: bool, short: bool) -> Result<On
         return Err(Refusal::NoRoster);
     };
     let g = instance::instance_of(roster);
-    on_roster(g, plan, needs, short)
+    let read = on_roster(g, plan, needs, short)?;
+    Ok(OnDesk { g: g, plan: read })
 }
 
 // ---- the two halves of it, for calls that need one of them

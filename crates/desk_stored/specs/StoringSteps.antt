@@ -1,5 +1,5 @@
 -- How the parts of a storing fit together: the plan held or none, the proposal, and the answer of the change's bytes.
-use Rattle.std.specs.Prelude.{ℕ, ◌≤◌, ◌<◌, ◌≡◌, refl, Bool, true, false, List, [], take, T, Result}
+use Rattle.std.specs.Prelude.{ℕ, ◌≡◌, refl, Bool, true, false, List, [], take, T, Result}
 use Rattle.std.specs.declared.result.Result.TheVariants.{Ok, Err}
 use Rattle.std.proofs.Common.{arith, sym, ap, ◌∙◌, subst}
 use Rattle.lists.specs.Test.{given}
@@ -21,6 +21,7 @@ use Rattle.answers.specs.RefusalCases.{number_of, code_of, number_some}
 use Rattle.roster_parts.specs.declared.RosterBytes.{RosterBytes}
 use Rattle.plan_carried.specs.declared.CarriedPlan.{CarriedPlan}
 use Rattle.plan_carried.specs.Remaining.{Few, CarriedFor}
+use Rattle.plan_reader.specs.declared.PlanRead.{PlanRead}
 use Rattle.desk_loaded.specs.declared.OnDesk.{OnDesk}
 use Rattle.model_desk.specs.HeldFiles.{held_plan}
 use Rattle.desk_loaded.specs.Held.{state_number}
@@ -37,7 +38,7 @@ abbrev nobody : Roster
 nobody = record { quotas_s = []; quotas_t = []; lists_s = []; lists_t = [] }
 
 module _ (g : arrays.Instance) (file : List ℕ) where
-  pub no_plan_law : (s : ℕ) {x : Result OnDesk Refusal} {n : Refusal} → OnRosterAs g file true false x → x ≡ Err n
+  pub no_plan_law : (s : ℕ) {x : Result PlanRead Refusal} {n : Refusal} → OnRosterAs g file true false x → x ≡ Err n
       → LessOf (shown_by g) s (read_plan (shown_by g) file) []
   no_plan_law s {x} {n} F q = go (read_plan (shown_by g) file) ((subst (OnRosterAs g file true false) q F).number nobody)
     where
@@ -45,7 +46,8 @@ module _ (g : arrays.Instance) (file : List ℕ) where
       go (accepted M) e = absurd (let h = number_some n in let z : ⊥ = omega arith in z)
       go (refused k) e = refl
 
-  pub on_it : {x : Result OnDesk Refusal} {l : OnDesk} → OnRosterAs g file true false x → x ≡ Ok l → OnRoster g file true false 0 l
+  pub on_it : {x : Result PlanRead Refusal} {p : PlanRead} → OnRosterAs g file true false x → x ≡ Ok p
+      → OnRoster g file true false 0 (record { g = g; plan = p })
   on_it F q = subst (OnRosterAs g file true false) q F
 
 module _ (g : arrays.Instance) (file : List ℕ) {l : OnDesk} (F : OnRoster g file true false 0 l) where

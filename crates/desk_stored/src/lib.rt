@@ -48,10 +48,7 @@ pub(crate) fn less(g: Instance, plan: &[u8], number: u8) -> CarriedPlan
             len: 0,
             bytes: [0; PLAN_SIZE],
         },
-        Ok(l) => {
-            let held = l.plan.chosen;
-            plan_carried::carried(g, &held, number)
-        }
+        Ok(read) => plan_carried::carried(g, &read.chosen, number),
     }
 }
 

@@ -17,6 +17,7 @@ pub fn join(first: &[u8], second: &[u8], out: &mut [u8]) -> Result<usize, Refusa
     }
     roster::read_roster(first)?;
     roster::read_roster(second)?;
-    let made = roster_districts::join(first, second)?;
+    let k = roster_districts::counts_of_both(first, second)?;
+    let made = roster_districts::beside(first, k.ns, k.nt, second, k.ms, k.mt);
     Ok(byte_slices::copy(made.bytes(), out))
 }

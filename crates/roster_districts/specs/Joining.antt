@@ -26,6 +26,7 @@ use Rattle.theory_files.specs.Offsets.{lists_start, ranking_section, offsets, ra
 use Rattle.theory_renamed.specs.MovedUp.{range_parts}
 use Rattle.theory_renamed.specs.JoinedFits.{Room, sums_by_counts_law, joined_counts, fits_joined}
 use Rattle.answers.specs.declared.Refusal.{Refusal}
+use Rattle.roster_districts.specs.declared.Counts.{Counts}
 use Rattle.answers.specs.declared.Refusal.TheVariants.{TooMany, QuotaTooHigh}
 use Rattle.roster_parts.specs.declared.RosterBytes.{RosterBytes}
 use Rattle.roster_parts.specs.Places.{quotas_part, surveyors_are, stands_are, lists_behind, lists_part}
@@ -44,6 +45,16 @@ sums_to r q = refuse_by (sums_check r q) (accepted (side_by_side r q))
 
 abbrev pub JoinedBy : (f g : List ℕ) → Result RosterBytes Refusal → Type 0
 JoinedBy f g c = (r q : Roster) → read_roster f ≡ accepted r → read_roster g ≡ accepted q → Gives (sums_to r q) c
+
+-- counts by which the two are joined: what holds the bytes of both, as they are put together by the counts, is what becomes of them
+pub record ByCounts (f g : List ℕ) (k : Counts) : Type 0 where
+  pub surveyors : k.ns + k.ms ≤ node_limit
+  pub stands : k.nt + k.mt ≤ node_limit
+  pub joined : (c : RosterBytes) → Holds (beside_bytes f k.ns k.nt g k.ms k.mt) c → JoinedBy f g (Ok c)
+
+abbrev pub CountsJoin : (f g : List ℕ) → Result Counts Refusal → Type 0
+CountsJoin f g (Ok k) = ByCounts f g k
+CountsJoin f g (Err n) = JoinedBy f g (Err n)
 
 module _ (n c : ℕ) (small : c ≤ node_limit) where
   list_under : (xs : List Entry) → T (in_range c xs) → all_under (up_table n) xs ≡ list_up n xs

@@ -4,9 +4,9 @@
 
 ghost use Rattle.std.specs.Prelude.{◌≡◌, ◌+◌, ◌≤◌};
 ghost use Rattle.model.specs.Limits.{node_limit};
-ghost use Rattle.roster_parts.specs.Growth.{Holds};
+ghost use Rattle.roster_parts.specs.Growth.{Grown, Holds};
 ghost use Rattle.roster_districts.specs.Beside.{up_table, quotas_from, nodes_beside, lists_beside, rankings_beside, beside_bytes};
-ghost use Rattle.roster_districts.specs.Joining.{Accepted, JoinedBy};
+ghost use Rattle.roster_districts.specs.Joining.{Accepted, CountsJoin};
 
 use answers::Refusal;
 use limits::{NODE_LIMIT, QUOTA_SUM_LIMIT, ROSTER_SIZE};
@@ -47,7 +47,8 @@ pub(crate) fn nodes_beside(
 }
 
 // the first's surveyors' lists, which start at a place of its file and end at another, and ms of the second's, stand numbers by the table
-pub(crate) fn lists_beside(
+pub(crate) fn append_lists_beside(
+    out: &mut RosterBytes,
     first: &[u8],
     start: usize,
     end: usize,
@@ -55,38 +56,35 @@ pub(crate) fn lists_beside(
     place: usize,
     ms: usize,
     table: &[u8],
-) -> RosterBytes
+)
     requires { (start ≤ end) × (place ≤ 20000) × (ms ≤ node_limit) }
-    ensures { Holds (lists_beside first.now start end second.now place ms table.now) result }
+    ensures { Grown (lists_beside first.now start end second.now place ms table.now) out.old out.new }
 {
     let lists = roster_positions::part(first, start, end - start);
-    let mut out = RosterBytes::new();
     out.append(lists);
     out.append_lists(second, place, ms, table);
-    out
 }
 
 // the first's stands' lists, from a place of its file on to its end, and mt of the second's, surveyor numbers by the table
-pub(crate) fn rankings_beside(
+pub(crate) fn append_rankings_beside(
+    out: &mut RosterBytes,
     first: &[u8],
     start: usize,
     second: &[u8],
     place: usize,
     mt: usize,
     table: &[u8],
-) -> RosterBytes
+)
     requires { (place ≤ 40000) × (mt ≤ node_limit) }
-    ensures { Holds (rankings_beside first.now start second.now place mt table.now) result }
+    ensures { Grown (rankings_beside first.now start second.now place mt table.now) out.old out.new }
 {
     let lists = roster_positions::part(first, start, ROSTER_SIZE);
-    let mut out = RosterBytes::new();
     out.append(lists);
     out.append_rankings(second, place, mt, table);
-    out
 }
 
 // the roster of both
-pub(crate) fn beside(
+pub fn beside(
     first: &[u8],
     ns: usize,
     nt: usize,
@@ -102,10 +100,22 @@ pub(crate) fn beside(
     let stands = moved_up(nt as u8);
     let surveyors = moved_up(ns as u8);
     let mut out = nodes_beside(first, ns, nt, second, ms, mt);
-    let lists = lists_beside(first, ns + nt + 4, end, second, ms + mt + 4, ms, &stands);
-    let rankings = rankings_beside(first, end + 2, second, end2 + 2, mt, &surveyors);
-    out.append_section(ns + ms, &lists);
-    out.append_section(2 * (nt + mt), &rankings);
+    // one part serves both sections: each is as large as a roster, and to make it costs its size
+    let mut part = RosterBytes::new();
+    append_lists_beside(
+        &mut part,
+        first,
+        ns + nt + 4,
+        end,
+        second,
+        ms + mt + 4,
+        ms,
+        &stands,
+    );
+    out.append_section(ns + ms, &part);
+    part.len = 0;
+    append_rankings_beside(&mut part, first, end + 2, second, end2 + 2, mt, &surveyors);
+    out.append_section(2 * (nt + mt), &part);
     out
 }
 
@@ -126,10 +136,20 @@ pub(crate) fn quotas_of_both(
     a + b
 }
 
-// "then sums past document 01's limits meet 2 and then 3"
-pub fn join(first: &[u8], second: &[u8]) -> Result<RosterBytes, Refusal>
+// How many surveyors and stands each of two files has.
+#[derive(Clone, Copy)]
+pub struct Counts {
+    pub ns: usize,
+    pub nt: usize,
+    pub ms: usize,
+    pub mt: usize,
+}
+
+// "then sums past document 01's limits meet 2 and then 3"; else the counts, by which `beside` joins the two. The roster of both is no part of the answer:
+// each `Result` that is made of so large a value costs its size once more, cleared.
+pub fn counts_of_both(first: &[u8], second: &[u8]) -> Result<Counts, Refusal>
     requires { Accepted first.now × Accepted second.now }
-    ensures { JoinedBy first.now second.now result }
+    ensures { CountsJoin first.now second.now result }
 {
     let ns = roster_positions::byte_at(first, 0) as usize;
     let nt = roster_positions::byte_at(first, ns + 1) as usize;
@@ -149,5 +169,5 @@ pub fn join(first: &[u8], second: &[u8]) -> Result<RosterBytes, Refusal>
     if (QUOTA_SUM_LIMIT as usize) < t {
         return Err(Refusal::QuotaTooHigh);
     }
-    Ok(beside(first, ns, nt, second, ms, mt))
+    Ok(Counts { ns, nt, ms, mt })
 }

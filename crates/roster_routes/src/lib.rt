@@ -81,16 +81,16 @@ pub(crate) fn append_quotas(
 }
 
 // the stands' lists in the order, of those from a place of the file on
-pub(crate) fn rankings_in_order(
+pub(crate) fn append_rankings_in_order(
+    out: &mut RosterBytes,
     file: &[u8],
     start: usize,
     count: usize,
     order: &[u8],
-) -> RosterBytes
+)
     requires { (start ≤ 40000) × (count ≤ node_limit) × Ordered count order.now }
-    ensures { Holds (rankings_in_order file.now start order.now 0 count) result }
+    ensures { Grown (rankings_in_order file.now start order.now 0 count) out.old out.new }
 {
-    let mut out = RosterBytes::new();
     for i in 0..count {
         let t = roster_positions::byte_at(order, i + 1) as usize;
         let at = rankings_end(file, start, t - 1);
@@ -99,7 +99,6 @@ pub(crate) fn rankings_in_order(
         let list = roster_positions::part(file, at, ENTRY_WIDTH * (a + b) + 2);
         out.append(list);
     }
-    out
 }
 
 // the roster of ns surveyors and nt stands, reordered
@@ -113,10 +112,12 @@ pub fn reordered(file: &[u8], ns: usize, nt: usize, order: &[u8], numbers: &[u8]
     let mut out = RosterBytes::new();
     out.append(nodes);
     append_quotas(&mut out, file, ns + 1, nt, order);
-    let mut lists = RosterBytes::new();
-    lists.append_lists(file, start, ns, numbers);
-    let rankings = rankings_in_order(file, end + 2, nt, order);
-    out.append_section(ns, &lists);
-    out.append_section(2 * nt, &rankings);
+    // one part serves both sections: each is as large as a roster, and to make it costs its size
+    let mut part = RosterBytes::new();
+    part.append_lists(file, start, ns, numbers);
+    out.append_section(ns, &part);
+    part.len = 0;
+    append_rankings_in_order(&mut part, file, end + 2, nt, order);
+    out.append_section(2 * nt, &part);
     out
 }

@@ -1,17 +1,12 @@
 -- `desk_loaded::on_roster` meets its contract: with a plan where one is needed. Assumes nothing.
-use Rattle.std.proofs.Common.{◌≡◌, sym, ap, subst, ◌∙◌, Ok, Err, rules}
+use Rattle.std.proofs.Common.{◌≡◌, sym, ap, subst, ◌∙◌, Err, rules}
 use Rattle.model.specs.PlanFile.{read_plan}
 use Rattle.roster_reading.specs.Place.{bytes_of}
-use Rattle.answers.specs.RefusalCases.{number_of, code_of}
+use Rattle.answers.specs.RefusalCases.{code_of}
 use Rattle.instance.specs.Decoded.{shown_by}
 use Rattle.desk_loaded.specs.Held.{unneeded}
-use Rattle.desk_loaded.specs.OnDesk.{OnRosterAs, not_on_roster, plan_unneeded}
+use Rattle.desk_loaded.specs.OnDesk.{OnRosterAs, not_on_roster, unplanned}
 use Rattle.desk_loaded.proofs.on_roster.Goals as goal
-
-pub returns-then-needs : goal.returns-then-needs
-returns-then-needs c =
-    let a = c.args in
-    subst (λ b. OnRosterAs a.g a.plan.now b a.short c.with_plan.result) (sym c.if-needs.true) c.with_plan.ensures
 
 pub returns-in_err-check_buffers : goal.returns-in_err-check_buffers
 returns-in_err-check_buffers c =
@@ -26,6 +21,9 @@ returns-in_err-check_buffers c =
 pub returns : goal.returns
 returns c =
     let a = c.args in
-    let b = c.bare in
-    subst (λ z. OnRosterAs a.g a.plan.now z a.short (Ok b.result)) (sym c.if-needs.false)
-    (plan_unneeded a.g a.plan.now a.short b.result b.ensures (sym (ap code_of c.in_ok-check_buffers.was) ∙ c.check_buffers.ensures))
+    unplanned a.g a.plan.now a.short c.if-needs.false _ (sym (ap code_of c.in_ok-check_buffers.was) ∙ c.check_buffers.ensures)
+
+pub returns-then-needs : goal.returns-then-needs
+returns-then-needs c =
+    let a = c.args in
+    subst (λ b. OnRosterAs a.g a.plan.now b a.short c.with_plan.result) (sym c.if-needs.true) c.with_plan.ensures

@@ -54,21 +54,24 @@ returns-in_err-read_roster-2 c =
     settled (goal.at.returns-in_err-read_roster-2 c).Else-out-lt-ROSTER_SIZE told
     (second_turned a.first.now a.second.now r d a.out.now n c.in_err-read_roster-2.was c.read_roster-2.ensures)
 
-pub join-requires : goal.join-requires
-join-requires c = (first_read (goal.at.join-requires c).In_ok-read_roster, second_read (goal.at.join-requires c).In_ok-read_roster-2)
+pub counts_of_both-requires : goal.counts_of_both-requires
+counts_of_both-requires c = (first_read (goal.at.counts_of_both-requires c).In_ok-read_roster, second_read (goal.at.counts_of_both-requires c).In_ok-read_roster-2)
 
-pub returns-in_err-made : goal.returns-in_err-made
-returns-in_err-made c =
+pub returns-in_err-k : goal.returns-in_err-k
+returns-in_err-k c =
     let a = c.args in
-    let n = c.in_err-made.field-0.0 in
-    let told : c.from_residual-in_err-made.result ≡ Err n = search rules in
-    let (r, d) = first_read (goal.at.returns-in_err-made c).In_ok-read_roster in
-    let (q, e) = second_read (goal.at.returns-in_err-made c).In_ok-read_roster-2 in
-    settled (goal.at.returns-in_err-made c).Else-out-lt-ROSTER_SIZE told
-    (sums_turned a.first.now a.second.now r q d e a.out.now (c.join.ensures r q d e) n c.in_err-made.was)
+    let n = c.in_err-k.field-0.0 in
+    let told : c.from_residual-in_err-k.result ≡ Err n = search rules in
+    let (r, d) = first_read (goal.at.returns-in_err-k c).In_ok-read_roster in
+    let (q, e) = second_read (goal.at.returns-in_err-k c).In_ok-read_roster-2 in
+    settled (goal.at.returns-in_err-k c).Else-out-lt-ROSTER_SIZE told
+    (sums_turned a.first.now a.second.now r q d e a.out.now (c.in_err-k.ensures r q d e) n refl)
+
+pub beside-made-requires : goal.beside-made-requires
+beside-made-requires c = (c.in_ok-k.ensures.surveyors, c.in_ok-k.ensures.stands)
 
 pub copy-requires : goal.copy-requires
-copy-requires c = omega (arith, ap length c.bytes.ensures, written_few c.in_ok-made.made, c.if-out-lt-ROSTER_SIZE.false)
+copy-requires c = omega (arith, ap length c.bytes.ensures, written_few c.beside-made.result, c.if-out-lt-ROSTER_SIZE.false)
 
 pub returns : goal.returns
 returns c =
@@ -76,5 +79,5 @@ returns c =
     let (r, d) = first_read (goal.at.returns c).In_ok-read_roster in
     let (q, e) = second_read (goal.at.returns c).In_ok-read_roster-2 in
     settled (goal.at.returns c).Else-out-lt-ROSTER_SIZE refl
-    (both_copied a.first.now a.second.now r q d e a.out.now (c.join.ensures r q d e) c.in_ok-made.was c.bytes.result.now c.copy.result c.copy.new.to
-    c.bytes.ensures c.copy.ensures.0 c.copy.ensures.1)
+    (both_copied a.first.now a.second.now r q d e a.out.now (c.in_ok-k.ensures.joined c.beside-made.result c.beside-made.ensures r q d e) refl
+    c.bytes.result.now c.copy.result c.copy.new.to c.bytes.ensures c.copy.ensures.0 c.copy.ensures.1)

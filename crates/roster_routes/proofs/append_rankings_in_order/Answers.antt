@@ -1,15 +1,15 @@
--- `roster_routes::rankings_in_order` meets its contract: the lists from the i-th number on are left. Assumes nothing.
+-- `roster_routes::append_rankings_in_order` meets its contract: the lists from the i-th number on are left. Assumes nothing.
 use Rattle.std.proofs.Common.{◌≤◌, zero-le, arith, rules}
 use Rattle.model.specs.Limits.{node_limit}
-use Rattle.roster_parts.specs.Growth.{holds_all, going_first, going_on, going_ends}
+use Rattle.roster_parts.specs.Growth.{going_first, going_on, going_ends}
 use Rattle.roster_routes.specs.Reordered.{ranking_at, rankings_in_order, ranking_turn, parts_done}
-use Rattle.roster_routes.proofs.rankings_in_order.Goals.{After-byte_at-t, After-rankings_end-at}
-use Rattle.roster_routes.proofs.rankings_in_order.Goals as goal
+use Rattle.roster_routes.proofs.append_rankings_in_order.Goals.{After-byte_at-t, After-rankings_end-at}
+use Rattle.roster_routes.proofs.append_rankings_in_order.Goals as goal
 
 pub loop-i-init : goal.loop-i-init
 loop-i-init c =
     let a = c.args in
-    (zero-le, going_first (rankings_in_order a.file.now a.start a.order.now 0) a.count c.new-out.result)
+    (zero-le, going_first (rankings_in_order a.file.now a.start a.order.now 0) a.count a.out.now)
 
 -- the stand of a turn is one
 stand : (p : After-byte_at-t) → (1 ≤ p.byte_at-t.result) × (p.byte_at-t.result ≤ node_limit)
@@ -50,4 +50,4 @@ loop-i-preserved c =
 pub returns : goal.returns
 returns c =
     let a = c.args in
-    holds_all c.new-out.ensures (going_ends (parts_done (ranking_at a.file.now a.start a.order.now) a.count c.loop-i.i c.loop-i-test.false) c.loop-i.invariant.1)
+    going_ends (parts_done (ranking_at a.file.now a.start a.order.now) a.count c.loop-i.i c.loop-i-test.false) c.loop-i.invariant.1

@@ -1,7 +1,7 @@
 use Rattle.std.proofs.Common.{◌-◌, ◌≤◌}
 use Rattle.roster_parts.specs.Growth.{Going}
 use Rattle.roster_routes.specs.Reordered.{rankings_in_order}
-use Rattle.roster_routes.proofs.rankings_in_order.Given as goal
+use Rattle.roster_routes.proofs.append_rankings_in_order.Given as goal
 
 abbrev pub invariant-loop-i : goal.invariant-loop-i
 invariant-loop-i l =
